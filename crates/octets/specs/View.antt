@@ -1,0 +1,115 @@
+-- What the answers of this crate's readers say of the octets s: a position stands for the octets from there on, a span for those within it.
+-- And where the positions lie. Together they leave one answer (proofs/Unique).
+use Prim.Native.Nat.{ℕ, _+_, _^_, _<_, _≤_}
+use mathlib.Core.Path.{_≡_}
+use mathlib.Core.List.{List}
+use lib.ListN.{length, take, drop}
+use Rattle.octets.specs.Reading.{Read, bad, ok, forget}
+use Rattle.octets.specs.Length.{decodeLength}
+use Rattle.octets.specs.Number.{decodeNumber, widthOf}
+use Rattle.octets.specs.Layout.{Layout, data', entries, taken, listOf}
+use Rattle.octets.specs.Frame.{heading, enclosed}
+use Rattle.octets.specs.declared.Fault.the-variants.{Other}
+use Rattle.octets.specs.declared.Width.{Width}
+use Rattle.octets.specs.declared.Span.{Span}
+use Rattle.octets.specs.declared.Length.{Length}
+use Rattle.octets.specs.declared.Length.the-variants as l
+use Rattle.octets.specs.declared.Number.{Number}
+use Rattle.octets.specs.declared.Number.the-variants as n
+use Rattle.octets.specs.declared.Data.{Data}
+use Rattle.octets.specs.declared.Data.the-variants as d
+use Rattle.octets.specs.declared.Entries.{Entries}
+use Rattle.octets.specs.declared.Listing.{Listing}
+use Rattle.octets.specs.declared.Listing.the-variants as t
+use Rattle.octets.specs.declared.Heading.{Heading}
+use Rattle.octets.specs.declared.Heading.the-variants as h
+use Rattle.octets.specs.declared.Enclosed.{Enclosed}
+use Rattle.octets.specs.declared.Enclosed.the-variants as e
+
+-- the octets within a span
+abbrev pub within : List ℕ → Span → List ℕ
+within s p = take (p .len) (drop (p .start) s)
+
+abbrev pub lengthIn : List ℕ → Length → Read ℕ
+lengthIn s (l.Value n next) = ok n (drop next s)
+lengthIn s (l.Bad f) = bad f
+
+abbrev pub lengthPlace : List ℕ → ℕ → Length → Type 0
+lengthPlace s at (l.Value n next) = (at < next) × (next ≤ length s) × (n < 16384)
+lengthPlace s at (l.Bad f) = Unit {0}
+
+pub record LengthAt (s : List ℕ) (at : ℕ) (r : Length) : Type 0 where
+  pub says : lengthIn s r ≡ decodeLength (drop at s)
+  pub place : lengthPlace s at r
+
+abbrev pub numberIn : List ℕ → Number → Read ℕ
+numberIn s (n.Value x next) = ok x (drop next s)
+numberIn s n.Bad = bad Other
+
+abbrev pub numberPlace : List ℕ → Width → Number → Type 0
+numberPlace s w (n.Value x next) = (next ≤ length s) × (x < 256 ^ widthOf w)
+numberPlace s w n.Bad = Unit {0}
+
+pub record NumberAt (s : List ℕ) (at : ℕ) (w : Width) (r : Number) : Type 0 where
+  pub says : numberIn s r ≡ decodeNumber (widthOf w) (drop at s)
+  pub place : numberPlace s w r
+
+abbrev pub dataIn : List ℕ → Data → Read (List ℕ)
+dataIn s (d.Value p next) = ok (within s p) (drop next s)
+dataIn s (d.Bad f) = bad f
+
+abbrev pub dataPlace : List ℕ → Data → Type 0
+dataPlace s (d.Value p next) = (p .start + p .len ≡ next) × (next ≤ length s)
+dataPlace s (d.Bad f) = Unit {0}
+
+pub record DataAt (s : List ℕ) (at : ℕ) (r : Data) : Type 0 where
+  pub says : dataIn s r ≡ data' .get (drop at s)
+  pub place : dataPlace s r
+
+abbrev pub headingIn : List ℕ → Heading → Read (ℕ × ℕ)
+headingIn s (h.Of version kind) = ok (version, kind) (drop 3 s)
+headingIn s h.Bad = bad Other
+
+abbrev pub headingPlace : List ℕ → Heading → Type 0
+headingPlace s (h.Of version kind) = (3 ≤ length s) × (version < 16)
+headingPlace s h.Bad = Unit {0}
+
+pub record HeadingOf (s : List ℕ) (r : Heading) : Type 0 where
+  pub says : headingIn s r ≡ heading s
+  pub place : headingPlace s r
+
+abbrev pub enclosedIn : List ℕ → Enclosed → Read (Unit {0})
+enclosedIn s (e.From at) = ok tt (drop at s)
+enclosedIn s (e.Bad f) = bad f
+
+abbrev pub enclosedPlace : List ℕ → Enclosed → Type 0
+enclosedPlace s (e.From at) = at ≤ length s
+enclosedPlace s (e.Bad f) = Unit {0}
+
+pub record EnclosedOf (s : List ℕ) (r : Enclosed) : Type 0 where
+  pub says : enclosedIn s r ≡ enclosed (drop 3 s)
+  pub place : enclosedPlace s r
+
+-- ---- a list, over the layout of its entries
+
+module _ {A : Type 0} (L : Layout A) where
+  -- the entries from a place on
+  abbrev pub entriesIn : List ℕ → Entries → List A
+  entriesIn s x = taken (entries L (x .count) (drop (x .start) s))
+
+  abbrev pub listIn : List ℕ → Listing → Read (List A)
+  listIn s (t.Value x next) = ok (entriesIn s x) (drop next s)
+  listIn s (t.Bad f) = bad f
+
+  abbrev pub listPlace : List ℕ → Listing → Type 0
+  listPlace s (t.Value x next) = (x .start ≤ length s) × (next ≤ length s) × (forget (entries L (x .count) (drop (x .start) s)) ≡ ok tt (drop next s))
+  listPlace s (t.Bad f) = Unit {0}
+
+pub record ListAt {A : Type 0} (L : Layout A) (s : List ℕ) (at : ℕ) (r : Listing) : Type 0 where
+  pub says : listIn L s r ≡ listOf L .get (drop at s)
+  pub place : listPlace L s r
+
+-- the entries from a place on, gone over: what is read as a list behind its count
+pub record Walked {A : Type 0} (L : Layout A) (s : List ℕ) (start count : ℕ) (r : Listing) : Type 0 where
+  pub says : listIn L s r ≡ entries L count (drop start s)
+  pub place : listPlace L s r
