@@ -1,0 +1,10 @@
+pub mod Places
+pub mod Lengths
+pub mod Numbers
+pub mod Lawful
+pub mod Areas
+pub mod Lists
+pub mod Sends
+pub mod Frames
+pub mod Spans
+pub mod Unique
