@@ -1,0 +1,4 @@
+pub mod Walks
+pub mod Lists
+pub mod Handed
+pub mod Unique
