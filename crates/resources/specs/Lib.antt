@@ -1,0 +1,2 @@
+pub mod Resource
+pub mod View
