@@ -1,0 +1,4 @@
+pub mod Requests
+pub mod Readings
+pub mod Theorems
+pub mod Unique

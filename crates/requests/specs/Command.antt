@@ -1,0 +1,48 @@
+-- The table of operations (document 01, 'Messages'): seven, of which six are plain or with a password; with a password the number is 64 more.
+use Prim.Native.Nat.{ℕ, _+_, _-_}
+use mathlib.Core.Bool.{Bool, _&&_, _||_}
+use mathlib.Core.List.{List, [], _∷_}
+use lib.ListN.{getD}
+use lib.Dec.{leb}
+use Rattle.octets.specs.Reading.{pick}
+use Rattle.octets.specs.declared.Form.{Form}
+use Rattle.octets.specs.declared.Form.the-variants as f
+
+pub data Command : Type 0 where
+  resourceInformation : Command
+  allocate : Command
+  free : Command
+  read : Command
+  write : Command
+  bulkRead : Command
+  bulkWrite : Command
+
+abbrev pub commandNumber : Command → ℕ
+commandNumber resourceInformation = 0
+commandNumber allocate = 1
+commandNumber free = 2
+commandNumber read = 3
+commandNumber write = 4
+commandNumber bulkRead = 5
+commandNumber bulkWrite = 6
+
+abbrev pub formNumber : Form → ℕ
+formNumber f.Plain = 0
+formNumber f.Password = 64
+
+-- the operation type
+abbrev pub kindOf : Command → Form → ℕ
+kindOf c w = commandNumber c + formNumber w
+
+-- operation types 7 to 64 and 71 to 255 are in no row of the table
+unfoldable pub known : ℕ → Bool
+known kind = leb kind 6 || (leb 65 kind && leb kind 70)
+
+abbrev pub formAt : ℕ → Form
+formAt kind = pick (leb 65 kind) f.Password f.Plain
+
+abbrev pub commands : List Command
+commands = resourceInformation ∷ allocate ∷ free ∷ read ∷ write ∷ bulkRead ∷ bulkWrite ∷ []
+
+abbrev pub commandAt : ℕ → Command
+commandAt kind = getD commands (pick (leb 65 kind) (kind - 64) kind) resourceInformation

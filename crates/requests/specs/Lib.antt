@@ -1,0 +1,3 @@
+pub mod Command
+pub mod Request
+pub mod View
