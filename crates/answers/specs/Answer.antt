@@ -1,0 +1,122 @@
+-- The answers (document 01, 'Messages'): the answer's type is the request's plus 128; none carries a password. And the denial.
+use Prim.Native.Nat.{ℕ, _+_, _-_}
+use mathlib.Core.Bool.{Bool, _&&_}
+use mathlib.Core.List.{List, []}
+use lib.ListN.{length, getD}
+use lib.Dec.{ltb, leb, eqb}
+use Rattle.octets.specs.Reading.{Read, bad, ok, pick, andThen, atEnd}
+use Rattle.octets.specs.Layout.{Layout, listOf, allowed}
+use Rattle.octets.specs.Area.{Outcome, written, described}
+use Rattle.octets.specs.Frame.{Message, decode, encode, writable}
+use Rattle.octets.specs.declared.Fault.the-variants.{Other}
+use Rattle.octets.specs.declared.Form.{Form}
+use Rattle.octets.specs.declared.Form.the-variants as f
+use Rattle.tags.specs.Entry.{Keyed, Held, key, memory}
+use Rattle.lists.specs.Handed.{belong, heldOf}
+use Rattle.resources.specs.Resource.{resources, alongside, resourcesOf}
+use Rattle.resources.specs.declared.Room.{Room}
+use Rattle.resources.specs.declared.Resource.{Resource}
+use Rattle.requests.specs.Command.{Command, kindOf, commandNumber, known, commandAt}
+use Rattle.requests.specs.Command as c
+use Rattle.answers.specs.Denial.{Denial, denial}
+
+-- what an accepted request is answered with
+pub data Body : Type 0 where
+  resourceInformation : Room × List Resource → Body
+  allocate : Keyed → Body
+  free : Keyed → Body
+  read : Held → Body
+  write : Keyed → Body
+  bulkRead : List Held → Body
+  bulkWrite : List Keyed → Body
+
+abbrev pub commandOf : Body → Command
+commandOf (resourceInformation x) = c.resourceInformation
+commandOf (allocate k) = c.allocate
+commandOf (free k) = c.free
+commandOf (read h) = c.read
+commandOf (write k) = c.write
+commandOf (bulkRead hs) = c.bulkRead
+commandOf (bulkWrite ks) = c.bulkWrite
+
+-- ---- the layout of each body
+
+abbrev pub bodyPut : Body → List ℕ
+bodyPut (resourceInformation x) = resources .put x
+bodyPut (allocate k) = key f.Plain .put k
+bodyPut (free k) = key f.Plain .put k
+bodyPut (read h) = memory f.Plain .put h
+bodyPut (write k) = key f.Plain .put k
+bodyPut (bulkRead hs) = listOf (memory f.Plain) .put hs
+bodyPut (bulkWrite ks) = listOf (key f.Plain) .put ks
+
+abbrev pub bodyFits : Body → Bool
+bodyFits (resourceInformation x) = resources .fits x
+bodyFits (allocate k) = key f.Plain .fits k
+bodyFits (free k) = key f.Plain .fits k
+bodyFits (read h) = memory f.Plain .fits h
+bodyFits (write k) = key f.Plain .fits k
+bodyFits (bulkRead hs) = listOf (memory f.Plain) .fits hs
+bodyFits (bulkWrite ks) = listOf (key f.Plain) .fits ks
+
+abbrev pub bodyGet : Command → List ℕ → Read Body
+bodyGet c.resourceInformation l = andThen (resources .get l) (λ x r. ok (resourceInformation x) r)
+bodyGet c.allocate l = andThen (key f.Plain .get l) (λ k r. ok (allocate k) r)
+bodyGet c.free l = andThen (key f.Plain .get l) (λ k r. ok (free k) r)
+bodyGet c.read l = andThen (memory f.Plain .get l) (λ h r. ok (read h) r)
+bodyGet c.write l = andThen (key f.Plain .get l) (λ k r. ok (write k) r)
+bodyGet c.bulkRead l = andThen (listOf (memory f.Plain) .get l) (λ hs r. ok (bulkRead hs) r)
+bodyGet c.bulkWrite l = andThen (listOf (key f.Plain) .get l) (λ ks r. ok (bulkWrite ks) r)
+
+abbrev pub bodyOf : Command → Layout Body
+bodyOf x = record { put = bodyPut; get = bodyGet x; fits = λ b. eqb (commandNumber (commandOf b)) (commandNumber x) && bodyFits b }
+
+-- the answer's type
+abbrev pub answerKind : Command → Form → ℕ
+answerKind x w = kindOf x w + 128
+
+-- the body of each answer's type
+unfoldable pub answerBody : ℕ → Layout Body
+answerBody kind = allowed (leb 128 kind && known (kind - 128)) (bodyOf (commandAt (kind - 128)))
+
+-- ---- what is read and written
+
+pub data Answer : Type 0 where
+  accepted : Message Body → Answer
+  denied : Denial → Answer
+
+-- a denial is told by its second octet
+abbrev pub isDenial : List ℕ → Bool
+isDenial s = eqb (getD s 1 0) 255
+
+abbrev pub decodeAnswer : List ℕ → Read Answer
+decodeAnswer s = pick (isDenial s) (andThen (atEnd (denial .get s)) (λ d r. ok (denied d) r)) (andThen (decode answerBody s) (λ m r. ok (accepted m) r))
+
+-- the answer that octets are: at most 2,048 of them
+unfoldable pub answerRead : List ℕ → Read Answer
+answerRead s = pick (ltb 2048 (length s)) (bad Other) (decodeAnswer s)
+
+-- an answer of that version, to a request that was plain or with passwords
+abbrev pub answer : ℕ → Form → Body → Message Body
+answer version w b = record { version = version; kind = answerKind (commandOf b) w; body = b }
+
+abbrev pub answerOctets : Answer → List ℕ
+answerOctets (accepted m) = encode answerBody m
+answerOctets (denied d) = denial .put d
+
+abbrev pub answerWritable : Answer → Bool
+answerWritable (accepted m) = writable answerBody m
+answerWritable (denied d) = denial .fits d
+
+-- an answer written into an area
+abbrev pub answerSent : Answer → List ℕ → Outcome × List ℕ
+answerSent a old = written (answerWritable a) (answerOctets a) old
+
+-- resource information and bulk answers of the lists that slices describe
+abbrev pub resourceInformationSent : ℕ → Room → List ℕ → List ℕ → List ℕ → List ℕ → List ℕ → Outcome × List ℕ
+resourceInformationSent version x tags modes held sizes old =
+    described (alongside tags modes held sizes) (answerSent (accepted (answer version f.Plain (resourceInformation (x, resourcesOf tags modes held sizes)))) old) old
+
+abbrev pub bulkReadSent : Form → ℕ → List ℕ → List ℕ → List ℕ → List ℕ → List ℕ → Outcome × List ℕ
+bulkReadSent w version tags starts lengths octets old =
+    described (belong f.Plain tags [] starts lengths octets) (answerSent (accepted (answer version w (bulkRead (heldOf f.Plain tags [] starts lengths octets)))) old) old

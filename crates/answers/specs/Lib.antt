@@ -1,0 +1,3 @@
+pub mod Denial
+pub mod Answer
+pub mod View
