@@ -28,6 +28,12 @@ pub enum Access {
     Password(u64),
 }
 
+// By which port a command came.
+pub enum Port {
+    Normal,
+    Secure,
+}
+
 // Whether the tags of a message come plain or each with its password.
 pub enum Form {
     Plain,

@@ -1,0 +1,24 @@
+-- A mode and SPF as one number: the mode codes of the tables. Five zero bits, SPF required, writing prohibited, reading prohibited.
+use Prim.Native.Nat.{ℕ, _-_}
+use mathlib.Core.Bool.{Bool, true, false}
+use lib.Dec.{eqb, leb}
+use Rattle.octets.specs.Reading.{pick}
+use Rattle.admission.specs.declared.Mode.{Mode}
+use Rattle.admission.specs.declared.Mode.the-variants.{Both, ReadOnly, WriteOnly}
+
+abbrev pub modeCode : Mode → Bool → ℕ
+modeCode Both false = 0
+modeCode WriteOnly false = 1
+modeCode ReadOnly false = 2
+modeCode Both true = 4
+modeCode WriteOnly true = 5
+modeCode ReadOnly true = 6
+
+abbrev pub codeSpf : ℕ → Bool
+codeSpf w = leb 4 w
+
+abbrev pub lowMode : ℕ → Mode
+lowMode w = pick (eqb w 1) WriteOnly (pick (eqb w 2) ReadOnly Both)
+
+abbrev pub codeMode : ℕ → Mode
+codeMode w = lowMode (pick (leb 4 w) (w - 4) w)
