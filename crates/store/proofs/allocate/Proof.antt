@@ -1,0 +1,61 @@
+use Rattle.admission.specs.declared.Attributes.{Attributes}
+use Rattle.store.specs.Steps.{asked}
+use mathlib.Core.Path.{_≡_}
+use borrow.Author.Needs.{needs}
+use Rattle.store.proofs.Ways
+use Rattle.admission.proofs.Admitted
+use Rattle.store.proofs.allocate.Statement.{statement}
+use Rattle.store.proofs.allocate.Tie as tie
+
+-- what is asked for, with the six bits zero
+made : (c : tie.After-bare-tag) → _≡_ {A = Attributes} (record {
+  tag = c .bare-tag .result;
+  size = c .before .before .args .size;
+  mode = c .before .before .args .mode;
+  spf = c .before .before .args .spf;
+  lock = c .before .before .args .access;
+}) (asked (c .before .before .args .tag) (c .before .before .args .size) (c .before .before .args .mode) (c .before .before .args .spf) (c .before .before .args .access))
+made c = rw (c .bare-tag .ensures)
+
+bare-tag-requires : tie.Need-bare-tag-requires
+bare-tag-requires c κs = search needs
+
+enter-requires : tie.Need-enter-requires
+enter-requires c κs = search needs
+
+enum-known-verdict : tie.Need-enum-known-verdict
+enum-known-verdict c = search needs
+
+enum-told : tie.Need-enum-told
+enum-told c = search needs
+
+register-requires : tie.Need-register-requires
+register-requires c κs = let w = c .before .before .before .enter in
+    let g = Admitted.allowed-allocate _ _ _ _ _ (Ways.judged _ _ _ _ _ _ (w .result) (w .ensures) _ (c .before .enum-told .given .1)) .space in
+    (g .few, g .room)
+
+same-length : tie.Need-same-length
+same-length c = search needs
+
+returns : tie.Need-returns
+returns c = λ u pool s. Ways.allocate-denied u _ _ pool s _ _ _ _ _ _ (made (c .before .before .before .before .before)) (c .before .before .before .enter .result) _ (c .before .before .before .enter .ensures) _ (c .before .verdict .given .1)
+
+same-length-2 : tie.Need-same-length-2
+same-length-2 c = search needs
+
+returns-2 : tie.Need-returns-2
+returns-2 c = λ u pool s. Ways.allocate-done u _ _ pool s _ _ _ _ _ _ (made (c .before .before .before .before .before .before .before .before)) (c .before .before .before .before .before .before .enter .result) _ (c .before .before .before .before .before .before .enter .ensures) _ _ (c .before .before .before .before .enum-told .given .1) (c .before .before .register .ensures .0) (c .before .before .register .ensures .1)
+
+pub allocate-spec : {M : Type 1} → statement M
+allocate-spec =
+    tie.close
+    (tie.spec
+    bare-tag-requires
+    enter-requires
+    enum-known-verdict
+    enum-told
+    register-requires
+    same-length
+    returns
+    same-length-2
+    returns-2)
