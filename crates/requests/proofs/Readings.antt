@@ -175,12 +175,12 @@ pub decoded-at : {x : Command} {w : Form} {kind : ℕ} {s : List ℕ} {at : ℕ}
 decoded-at {x} {w} {kind} {s} {at} e k t = rw k (record { says = rw (t (drop at s)) (e .says); place = e .place })
 
 -- a number is none of a list
-abbrev Others : ℕ → List ℕ → Type 0
+abbrev pub Others : ℕ → List ℕ → Type 0
 Others k [] = Unit {0}
 Others k (i ∷ l) = Others k l × (k ≡ i → ⊥)
 
 -- the n numbers from m on, the last first, before a list
-abbrev from : ℕ → ℕ → List ℕ → List ℕ
+abbrev pub from : ℕ → ℕ → List ℕ → List ℕ
 from m zero l = l
 from m (suc n) l = (m + n) ∷ from m n l
 
@@ -195,11 +195,11 @@ others-past k m zero l o h = omega arith
 others-past k m (suc n) l o h = omega (arith, others-past k m n l (o .0) h, o .1)
 
 -- the operation types of the table
-abbrev types : List ℕ
+abbrev pub types : List ℕ
 types = from 65 6 (from 0 7 [])
 
 -- a type that is none of these thirteen is in no row of the table
-unknown-others : (k : ℕ) → Others k types → known k ≡ false
+pub unknown-others : (k : ℕ) → Others k types → known k ≡ false
 unfolding known
 unknown-others k o = rw (lt-leb k 6 (others-past k 0 7 [] (others-rest k 65 6 (from 0 7 []) o) zero-le)) (go (leb 65 k) refl)
   where
