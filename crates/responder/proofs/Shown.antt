@@ -5,7 +5,9 @@ use mathlib.Core.List.{List}
 use native.Mathlib.Omega.{arith}
 use lib.ListN.{length, take, drop}
 use Rattle.octets.specs.Area.{Does}
+use Rattle.octets.specs.Number.{bare}
 use Rattle.octets.specs.declared.Access.{Access}
+use Rattle.octets.specs.declared.Access.the-variants.{Plain}
 use Rattle.octets.specs.declared.Form.{Form}
 use Rattle.octets.specs.declared.Port.{Port}
 use Rattle.octets.specs.declared.Span.{Span}
@@ -37,18 +39,18 @@ module _ (u : State) (g : Head) (table pool : List ℕ) (s : Shows u g table poo
       let q : readStep u x p a ≡ denied n = sym (d .says) ∙ ap (heldIn pool) e in
       rw (q, ← version-is) y
 
-  -- given, and so shown
-  pub read-done : (i : Span) (xs : List ℕ) (z : Written) → r ≡ h.Data i → xs ≡ take (i .len) (drop (i .start) pool) → x < 2 ^ 64 → 2048 ≤ length old
-      → Does (answerSent (accepted (answer (g .version) w (b.read (named x, xs)))) old) z new → t ≡ sentOf z → Sends (readDone u p w (x, a) .reply) t old new
+  -- given, and so shown: by the form of the command, its tag with the six ignored bits zero
+  pub read-done : (i : Span) (xs : List ℕ) (z : Written) (form : Form) (n : ℕ) → r ≡ h.Data i → form ≡ w → n ≡ bare x → xs ≡ take (i .len) (drop (i .start) pool) → x < 2 ^ 64
+      → 2048 ≤ length old → Does (answerSent (accepted (answer (g .version) form (b.read ((n, Plain), xs)))) old) z new → t ≡ sentOf z → Sends (readDone u p w (x, a) .reply) t old new
   unfolding readDone
-  read-done i xs z e ex l k y f =
+  read-done i xs z form n e ef en ex l k y f =
       let q : readStep u x p a ≡ content xs = sym (d .says) ∙ ap (heldIn pool) e ∙ ap content (sym ex) in
       let o : (i .start + i .len ≤ length pool) × (i .len ≤ u .limits .area) = rw e at (d .place) in
-      let n : length xs ≤ 1024 = omega (arith, ap length ex, span-length pool i (o .0), o .1, s .valid .shared .area) in
+      let few : length xs ≤ 1024 = omega (arith, ap length ex, span-length pool i (o .0), o .1, s .valid .shared .area) in
       let v : g .version ≤ 15 = omega (arith, version-is, s .valid .low) in
       let c : Answer = accepted (answer (g .version) w (b.read (named x, xs))) in
-      let m = read-writable (g .version) w x v l xs n in
-      rw (q, ← version-is) (sends c m (writable-short c m) k y f)
+      let m = read-writable (g .version) w x v l xs few in
+      rw (q, ← version-is) (sends c m (writable-short c m) k (rw (ef, en) at y) f)
 
 -- a read leaves the unit as it was
 pub read-left : (u : State) (p : Port) (w : Form) (x : ℕ) (a : Access) → u ≡ readDone u p w (x, a) .unit

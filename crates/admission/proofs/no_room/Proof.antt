@@ -21,13 +21,17 @@ more : (m u s : ℕ) → m < u → ltb m (u + s) ≡ true
 more m u s h = lt-ltb m (u + s) (omega arith)
 
 returns : tie.Need-returns
-returns c = rw (le-leb _ _ (c .if1 .taken))
+returns c = let h = c .before .before .args .head in rw (le-leb (h .limits .tags) (h .count) (c .if1 .taken))
 
 returns-2 : tie.Need-returns-2
-returns-2 c = rw (lt-leb _ _ (c .before .before .if1 .left), more _ _ _ (c .if2 .taken))
+returns-2 c =
+    let h = c .before .before .before .before .args .head in
+    rw (lt-leb (h .limits .tags) (h .count) (c .before .before .if1 .left), more _ _ _ (c .if2 .taken))
 
 returns-3 : tie.Need-returns-3
-returns-3 c = rw (lt-leb _ _ (c .before .before .before .if1 .left)) (less-left _ _ _ (c .before .if2 .left))
+returns-3 c =
+    let h = c .before .before .before .before .before .args .head in
+    rw (lt-leb (h .limits .tags) (h .count) (c .before .before .before .if1 .left)) (less-left _ _ _ (c .before .if2 .left))
 
 pub no-room-spec : {M : Type 1} → statement M
 no-room-spec = tie.close (tie.spec returns returns-2 returns-3)

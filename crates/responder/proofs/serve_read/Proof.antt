@@ -42,8 +42,9 @@ same-length-2 c = search needs
 
 returns-2 : tie.Need-returns-2
 returns-2 c = λ u s.
-    let y = rw (c .before .before .before .before .before .before .before .form-of .ensures .0, c .before .before .before .before .before .before .bare-tag .ensures) at (c .before .before .before .write-read .ensures) in
-    read-done u _ _ _ s _ _ _ _ _ (c .before .before .before .before .before .before .before .before .before .before .before .read .ensures u _ s) _ _ _ (c .before .before .before .before .before .before .before .before .before .held2 .given .0 .0) _ _ (c .before .before .before .before .before .before .before .before .before .held2 .given .1) (c .before .before .before .before .before .part .ensures) (c .before .before .before .before .before .before .before .before .before .before .before .before .before .before .before .fits .tag .fits) (c .before .before .before .before .before .before .before .before .before .before .before .before .before .before .before .pre .1) y (c .told .ensures)
+    let i = c .before .before .before .before .before .before .before .before .before in
+    let start = i .before .before .before .before .before .before in
+    read-done u _ _ _ s _ _ _ _ _ (i .before .before .read .ensures u _ s) _ _ _ (i .held2 .given .0 .0) _ _ _ _ (i .held2 .given .1) (c .before .before .before .before .before .before .before .form-of .ensures .0) (c .before .before .before .before .before .before .bare-tag .ensures) (c .before .before .before .before .before .part .ensures) (start .fits .tag .fits) (start .pre .1) (c .before .before .before .write-read .ensures) (c .told .ensures)
 
 pub serve-read-spec : {M : Type 1} → statement M
 serve-read-spec =
