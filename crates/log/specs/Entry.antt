@@ -77,7 +77,7 @@ abbrev pub lookPlace : List ℕ → Seen → Type 0
 lookPlace s l.Nothing = Unit {0}
 lookPlace s l.Wrong = Unit {0}
 lookPlace s l.Cut = Unit {0}
-lookPlace s (l.Whole port len) = 5 + len ≤ length s
+lookPlace s (l.Whole port len) = (5 + len ≤ length s) × (len ≤ 2048)
 
 -- how many octets an answer has
 abbrev pub lengthOf : Sent → ℕ

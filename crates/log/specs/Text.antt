@@ -42,10 +42,17 @@ answerLine n answer = decimal n ++ space ++ hexadecimal answer ++ lineEnd
 unfoldable pub worded : List ℕ → ℕ → List ℕ
 worded words n = words ++ decimal n ++ lineEnd
 
+-- `bad record` and `records`, each with its space
+abbrev pub badWords : List ℕ
+badWords = 98 ∷ 97 ∷ 100 ∷ 32 ∷ 114 ∷ 101 ∷ 99 ∷ 111 ∷ 114 ∷ 100 ∷ 32 ∷ []
+
+abbrev pub recordsWords : List ℕ
+recordsWords = 114 ∷ 101 ∷ 99 ∷ 111 ∷ 114 ∷ 100 ∷ 115 ∷ 32 ∷ []
+
 -- "prints `bad record`, a space and its number"
 abbrev pub badRecord : ℕ → List ℕ
-badRecord n = worded (98 ∷ 97 ∷ 100 ∷ 32 ∷ 114 ∷ 101 ∷ 99 ∷ 111 ∷ 114 ∷ 100 ∷ 32 ∷ []) n
+badRecord n = worded badWords n
 
 -- "the last line is `records`, a space and the number answered"
 abbrev pub records : ℕ → List ℕ
-records n = worded (114 ∷ 101 ∷ 99 ∷ 111 ∷ 114 ∷ 100 ∷ 115 ∷ 32 ∷ []) n
+records n = worded recordsWords n
