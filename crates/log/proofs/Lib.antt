@@ -6,3 +6,4 @@ pub mod Steps
 pub mod Theorems
 pub mod Table
 pub mod Unique
+pub mod Callers

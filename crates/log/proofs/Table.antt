@@ -5,7 +5,7 @@ use mathlib.Core.Path.{_≡_, refl}
 use mathlib.Core.List.{List, [], _∷_, _++_, map}
 use lib.ListN.{take}
 use Rattle.octets.specs.Length.{encodeLength, decodeLength}
-use Rattle.octets.specs.Number.{number, octets, decodeNumber, bare}
+use Rattle.octets.specs.Number.{number, octets, decodeNumber}
 use Rattle.octets.specs.Frame.{opening, heading, enclosed, decode, encode, receive}
 use Rattle.requests.specs.Command.{known}
 use Rattle.requests.specs.Request.{requestBody}

@@ -1,6 +1,6 @@
 -- The promise of step leaves one outcome: any two that it allows are equal, to the last word and octet.
 use Prim.Native.Nat.{ℕ}
-use mathlib.Core.Path.{_≡_, refl, sym, ap, _∙_}
+use mathlib.Core.Path.{_≡_, refl, sym, _∙_}
 use mathlib.Core.List.{List}
 use native.Mathlib.Omega.{arith}
 use Rattle.store.proofs.Unique.{shows-unique}

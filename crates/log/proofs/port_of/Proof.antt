@@ -1,4 +1,3 @@
-use Prim.Native.Nat.{_-_}
 use borrow.Author.Tests.{eq-eqb, ne-eqb}
 use Rattle.log.proofs.port_of.Statement.{statement}
 use Rattle.log.proofs.port_of.Tie as tie

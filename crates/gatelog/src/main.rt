@@ -1,0 +1,155 @@
+// The gate log program: a log of records from standard input, a line for each to standard output.
+// Document 01, 'The gate log program'. What is printed for what input is `output` (log/specs/Output), and `log::step` does all of it but reading and writing; that the
+// calls may be made piece by piece, as here, is the theorem `pieces` (log/proofs/Theorems). No contract can speak of what is read and written.
+ghost use mathlib.Core.Path.{_≡_};
+ghost use Prim.Native.Nat.{_-_, _≤_, _<_};
+ghost use lib.ListN.{length, take, drop};
+ghost use lib.Seq.{sets};
+ghost use Rattle.store.specs.Model.{Shows, Sound};
+ghost use Rattle.log.specs.Output.{firstUnit};
+ghost use Rattle.gatelog.specs.Place.{Emptied, Refilled, Within};
+use admission::Head;
+use log::Turn;
+use store::Start;
+use store::Unit;
+
+// Where the program stands: the unit's head, how many records are answered, the octets at hand (from `start` to `end` of the input buffer), how many characters are not
+// yet written, whether the input is at its end, and whether to go on.
+struct Place {
+    head: Head,
+    answered: u32,
+    start: usize,
+    end: usize,
+    filled: usize,
+    last: bool,
+    going: bool,
+}
+
+// Writes what is not yet written.
+fn write_out(mut place: Place, out: &[u8]) -> Place
+    requires { ⌜ place .filled ≤ length (now out) ⌝ }
+    ensures { λ r. ⌜ Emptied place r ⌝ }
+{
+    let filled = place.filled;
+    place.filled = 0;
+    if io::write_all(libc::STDOUT_FILENO, &out[..filled]) {
+        return place;
+    }
+    os::fail(b"write");
+    place.going = false;
+    place
+}
+
+// The octets at hand go to the front of the input buffer.
+fn move_down(input: &mut [u8], start: usize, end: usize)
+    requires { ⌜ (start ≤ end) × (end ≤ length (now input)) ⌝ }
+    ensures { λ _. ⌜ now (input .exit) ≡ sets (now (input .entry)) 0 (take (end - start) (drop start (now (input .entry)))) ⌝ }
+{
+    let n = end - start;
+    let mut i = 0;
+    while i < n {
+        input[i] = input[start + i];
+        i += 1;
+    }
+}
+
+// Reads behind the octets at hand, of which there are fewer than the buffer holds.
+fn read_more(mut place: Place, input: &mut [u8]) -> Place
+    requires { ⌜ (place .start ≤ place .end) × (place .end ≤ length (now input)) × (place .end - place .start < length (now input)) ⌝ }
+    ensures { λ r. ⌜ Refilled place r (length (now (input .exit))) ⌝ }
+{
+    let n = place.end - place.start;
+    move_down(input, place.start, place.end);
+    let got = libc::read(libc::STDIN_FILENO, &mut input[n..]);
+    let more = io::count(got, &input[n..]);
+    place.start = 0;
+    place.end = n + more;
+    place.last = more == 0;
+    place
+}
+
+// One step of the log. Before it reads, everything that was answered is written.
+fn go_on(
+    mut place: Place,
+    table: &mut [u64],
+    pool: &mut [u8],
+    input: &mut [u8],
+    out: &mut [u8],
+) -> Place
+    requires { ⌜ Sound (place .head) (now table) (now pool) ⌝ }
+    requires { ⌜ Within place (now input) (now out) ⌝ }
+    requires { ⌜ 2053 ≤ length (now input) ⌝ }
+    ensures { λ r. ⌜ Sound (r .head) (now (table .exit)) (now (pool .exit)) × Within r (now (input .exit)) (now (out .exit)) ⌝ }
+{
+    let start = place.start;
+    let filled = place.filled;
+    let octets = octets::part(input, start, place.end - start);
+    let step = log::step(
+        place.head,
+        table,
+        pool,
+        place.answered,
+        octets,
+        place.last,
+        out,
+        filled,
+    );
+    let head = step.head;
+    let turn = step.turn;
+    place.head = head;
+    match turn {
+        Turn::Answered { used, written } => {
+            place.answered += 1;
+            place.start = start + used;
+            place.filled = filled + written;
+            place
+        }
+        Turn::More => {
+            let place = write_out(place, out);
+            if place.going {
+                read_more(place, input)
+            } else {
+                place
+            }
+        }
+        Turn::NoRoom => write_out(place, out),
+        Turn::Ended { written } => {
+            place.filled = filled + written;
+            place.going = false;
+            write_out(place, out)
+        }
+    }
+}
+
+// A proved loop has to end, and nothing says that the input does: it has more turns than any run uses up.
+fn run(head: Head, table: &mut [u64], pool: &mut [u8], input: &mut [u8], out: &mut [u8])
+    requires { ⌜ Shows firstUnit head (now table) (now pool) ⌝ }
+    requires { ⌜ 2053 ≤ length (now input) ⌝ }
+{
+    let mut place = Place {
+        head,
+        answered: 0,
+        start: 0,
+        end: 0,
+        filled: 0,
+        last: false,
+        going: true,
+    };
+    let mut turns = u64::MAX;
+    while turns > 0 && place.going {
+        place = go_on(place, table, pool, input, out);
+        turns -= 1;
+    }
+}
+
+fn main() {
+    let unit = Unit::new();
+    let mut table = unit.table;
+    let mut pool = unit.pool;
+    let Start::Made(head) = Unit::start(1, true, true) else {
+        return;
+    };
+    let mut input = io::large_buffer();
+    let mut out = io::large_buffer();
+    run(head, &mut table, &mut pool, &mut input, &mut out);
+}
