@@ -56,7 +56,7 @@ fn move_down(input: &mut [u8], start: usize, end: usize)
 // Reads behind the octets at hand, of which there are fewer than the buffer holds.
 fn read_more(mut place: Place, input: &mut [u8]) -> Place
     requires { ⌜ (place .start ≤ place .end) × (place .end ≤ length (now input)) × (place .end - place .start < length (now input)) ⌝ }
-    ensures { λ r. ⌜ Refilled place r (length (now (input .exit))) ⌝ }
+    ensures { λ r. ⌜ Refilled place r (now (input .entry)) (now (input .exit)) ⌝ }
 {
     let n = place.end - place.start;
     move_down(input, place.start, place.end);

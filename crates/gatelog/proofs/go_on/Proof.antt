@@ -1,3 +1,4 @@
+-- `go_on`: what a caller of `log::step` learns (log/proofs/Callers) keeps every place within its buffer and the unit sound.
 use mathlib.Core.Path.{_≡_}
 use Prim.Native.Nat.{_-_}
 use native.Mathlib.Omega.{arith}
@@ -106,7 +107,7 @@ same-length-8 c = search needs
 returns-2 : tie.Need-returns-2
 returns-2 c = let m = c .before .before .read-more .ensures in
     let e = c .before .before .before .before .before .write-out .ensures in
-    (rw (m .head, e .head) (sounds (c .before .before .before .before .before .before .before .before .before .before .before .before .before .before .before .before)), record { order = omega (arith, m .start); inside = m .end; room = omega (arith, m .filled, e .filled) })
+    (rw (m .head, e .head) (sounds (c .before .before .before .before .before .before .before .before .before .before .before .before .before .before .before .before)), record { order = omega (arith, m .start); inside = m .end .1; room = omega (arith, m .filled, e .filled) })
 
 same-length-9 : tie.Need-same-length-9
 same-length-9 c = search needs

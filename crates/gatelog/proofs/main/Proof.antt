@@ -1,3 +1,4 @@
+-- `main`: the unit that it starts is the first unit of a log.
 use native.Mathlib.Omega.{arith}
 use borrow.Author.Needs.{needs}
 use mathlib.Core.Bool.{true}

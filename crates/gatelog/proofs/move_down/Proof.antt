@@ -1,3 +1,4 @@
+-- `move_down`: before each turn the octets passed stand at the front, and those ahead are still the old ones.
 use mathlib.Core.Path.{_≡_, refl, _∙_}
 use Prim.Native.Nat.{_+_, _-_, _≤_, _<_}
 use native.Mathlib.Omega.{arith}

@@ -1,3 +1,4 @@
+-- `run`: the unit stays sound and the places stay within their buffers. It ends because each turn leaves one fewer.
 use mathlib.Core.Path.{_≡_, refl, _∙_}
 use Prim.Native.Nat.{_≤_}
 use native.Mathlib.Omega.{arith}

@@ -1,3 +1,4 @@
+-- `write_out`: the part that is written is as long as it says.
 use mathlib.Core.Path.{sym}
 use borrow.Author.Needs.{needs}
 use lib.Seq.{length-take-le}

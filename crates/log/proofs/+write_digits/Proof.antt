@@ -1,3 +1,4 @@
+-- `write_digits`: no digit, one, or the digits of a tenth and one more. It ends because each call has a place fewer.
 use mathlib.Core.Path.{_∙_}
 use Prim.Native.Nat.{ℕ, _-_, _/_, _<_}
 use native.Mathlib.Omega.{arith}

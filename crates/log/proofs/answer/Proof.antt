@@ -1,3 +1,4 @@
+-- `answer`: what the responder wrote is the answer, and its line has room.
 use mathlib.Core.Path.{refl}
 use Prim.Native.Nat.{_+_, _≤_}
 use native.Mathlib.Omega.{arith}
@@ -17,10 +18,10 @@ slice-aggregate-respond : tie.Need-slice-aggregate-respond
 slice-aggregate-respond c = search needs
 
 respond-requires : tie.Need-respond-requires
-respond-requires c κs = search needs
+respond-requires c κs = c .before .before .before .before .before .before .before .pre .0
 
 length-of-requires : tie.Need-length-of-requires
-length-of-requires c κs = search needs
+length-of-requires c κs = tt
 
 add-write-answer : tie.Need-add-write-answer
 add-write-answer c = search needs
@@ -29,25 +30,25 @@ slice-aggregate-part : tie.Need-slice-aggregate-part
 slice-aggregate-part c = search needs
 
 part-requires : tie.Need-part-requires
-part-requires c κs = search needs
+part-requires c κs = tt
 
 write-answer-requires : tie.Need-write-answer-requires
 write-answer-requires c κs = omega (arith, small c, c .before .before .before .before .before .before .before .before .before .before .before .before .before .before .before .before .before .before .pre .1 .0)
 
 add-t29 : tie.Need-add-t29
-add-t29 c = search needs
+add-t29 c = omega (arith, c .before .before .before .before .before .before .before .before .before .before .before .before .before .before .before .before .before .before .before .before .before .pre .1 .1)
 
 sub-t30 : tie.Need-sub-t30
-sub-t30 c = search needs
+sub-t30 c = omega (arith, c .before .before .write-answer .ensures .next)
 
 same-length : tie.Need-same-length
-same-length c = search needs
+same-length c = c .before .before .before .before .before .before .before .before .before .before .before .before .before .respond .kept .1 .0
 
 same-length-2 : tie.Need-same-length-2
-same-length-2 c = search needs
+same-length-2 c = c .before .before .before .before .before .before .before .before .before .before .before .before .before .respond .kept .1 .1 .0
 
 same-length-3 : tie.Need-same-length-3
-same-length-3 c = search needs
+same-length-3 c = c .before .before .write-answer .kept .0
 
 returns : tie.Need-returns
 returns c = λ u last s v.

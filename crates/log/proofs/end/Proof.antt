@@ -1,3 +1,4 @@
+-- `end`: the closing lines, or more is wanted.
 use native.Mathlib.Omega.{arith}
 use borrow.Author.Needs.{needs}
 use denote.Ref.{now}

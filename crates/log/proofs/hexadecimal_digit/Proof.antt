@@ -1,3 +1,4 @@
+-- `hexadecimal_digit`: each side of its test.
 use borrow.Author.Needs.{needs}
 use borrow.Author.Tests.{lt-ltb, le-ltb}
 use Rattle.log.specs.Text.{hexadecimalDigit}

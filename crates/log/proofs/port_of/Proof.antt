@@ -1,3 +1,4 @@
+-- `port_of`: each side of its test.
 use borrow.Author.Tests.{eq-eqb, ne-eqb}
 use Rattle.log.proofs.port_of.Statement.{statement}
 use Rattle.log.proofs.port_of.Tie as tie

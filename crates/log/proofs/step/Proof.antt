@@ -1,3 +1,4 @@
+-- `step`: no room, or a turn.
 use native.Mathlib.Omega.{arith}
 use borrow.Author.Needs.{needs}
 use denote.Ref.{now}
@@ -15,16 +16,16 @@ returns-2 : tie.Need-returns-2
 returns-2 c = λ u v. let a = c .before .before .before .before .before .before .args in steps-not u (a .answered) (a .last) (now (a .octets)) (now (a .out)) (a .at) (omega arith) v
 
 take-turn-requires : tie.Need-take-turn-requires
-take-turn-requires c κs = search needs
+take-turn-requires c κs = (c .before .before .before .before .before .before .before .before .before .pre, omega arith)
 
 same-length : tie.Need-same-length
-same-length c = search needs
+same-length c = c .before .before .before .before .before .before .take-turn .kept .1 .0
 
 same-length-2 : tie.Need-same-length-2
-same-length-2 c = search needs
+same-length-2 c = c .before .before .before .before .before .before .take-turn .kept .1 .1 .0
 
 same-length-3 : tie.Need-same-length-3
-same-length-3 c = search needs
+same-length-3 c = c .before .before .before .before .before .before .take-turn .kept .1 .1 .1 .1 .1 .1 .0
 
 returns-3 : tie.Need-returns-3
 returns-3 c = λ u v. let a = c .before .before .before .before .before .before .before .before .before .before .before .before .before .before .before .before .args in steps u (a .answered) (a .last) (now (a .octets)) (now (a .out)) (a .at) (omega arith) (c .before .before .before .before .before .before .take-turn .ensures u v)

@@ -1,3 +1,4 @@
+-- `take_turn`: what `look` says stands at the front decides.
 use mathlib.Core.Bool.{true}
 use mathlib.Core.Path.{refl}
 use Prim.Native.Nat.{_+_}
@@ -12,31 +13,31 @@ use Rattle.log.proofs.take_turn.Statement.{statement}
 use Rattle.log.proofs.take_turn.Tie as tie
 
 look-requires : tie.Need-look-requires
-look-requires c κs = search needs
+look-requires c κs = tt
 
 enum-told : tie.Need-enum-told
 enum-told c = search needs
 
 end-requires : tie.Need-end-requires
-end-requires c κs = search needs
+end-requires c κs = omega (arith, c .before .before .before .before .before .before .before .before .pre .1)
 
 enum-told-2 : tie.Need-enum-told-2
 enum-told-2 c = search needs
 
 stop-requires : tie.Need-stop-requires
-stop-requires c κs = search needs
+stop-requires c κs = omega (arith, c .before .before .before .before .before .before .before .before .pre .1)
 
 enum-told-3 : tie.Need-enum-told-3
 enum-told-3 c = search needs
 
 stop-requires-2 : tie.Need-stop-requires-2
-stop-requires-2 c κs = search needs
+stop-requires-2 c κs = omega (arith, c .before .before .before .before .before .before .before .before .pre .1)
 
 enum-known-port : tie.Need-enum-known-port
 enum-known-port c = search needs
 
 part-requires : tie.Need-part-requires
-part-requires c κs = search needs
+part-requires c κs = tt
 
 answer-requires : tie.Need-answer-requires
 answer-requires c κs = let e = rw (c .before .before .before .before .before .port .given .1) at (c .before .before .before .before .before .before .before .look .ensures) in
@@ -44,7 +45,7 @@ answer-requires c κs = let e = rw (c .before .before .before .before .before .p
     (c .before .before .before .before .before .before .before .before .before .before .before .before .pre .0, (c .before .before .before .before .before .before .before .before .before .before .before .before .pre .1, rw (c .before .before .before .part .ensures, length-take m (drop 5 (now (c .before .before .before .before .before .before .before .before .before .before .before .before .args .octets)))) (omega (arith, e .1 .1))))
 
 same-length : tie.Need-same-length
-same-length c = search needs
+same-length c = c .before .before .end .kept .1 .1 .0
 
 returns : tie.Need-returns
 returns c = λ u v.
@@ -52,7 +53,7 @@ returns c = λ u v.
     turns-closed u (a .answered) (a .last) (now (a .octets)) (now (a .out)) (a .at) nothing (a .last) (endLines (a .answered)) ((rw (c .before .before .before .before .enum-told .given .1) at (c .before .before .before .before .before .before .look .ensures)) .0) refl (c .before .before .end .ensures) v
 
 same-length-2 : tie.Need-same-length-2
-same-length-2 c = search needs
+same-length-2 c = c .before .before .stop .kept .1 .1 .0
 
 returns-2 : tie.Need-returns-2
 returns-2 c = λ u v.
@@ -60,7 +61,7 @@ returns-2 c = λ u v.
     turns-closed u (a .answered) (a .last) (now (a .octets)) (now (a .out)) (a .at) wrong true (stopLines (a .answered)) ((rw (c .before .before .before .before .enum-told2 .given .1) at (c .before .before .before .before .before .before .look .ensures)) .0) refl (c .before .before .stop .ensures) v
 
 same-length-3 : tie.Need-same-length-3
-same-length-3 c = search needs
+same-length-3 c = c .before .before .stop2 .kept .1 .1 .0
 
 returns-3 : tie.Need-returns-3
 returns-3 c = λ u v.
@@ -68,13 +69,13 @@ returns-3 c = λ u v.
     turns-closed u (a .answered) (a .last) (now (a .octets)) (now (a .out)) (a .at) cut (a .last) (stopLines (a .answered)) ((rw (c .before .before .before .before .enum-told3 .given .1) at (c .before .before .before .before .before .before .look .ensures)) .0) refl (c .before .before .stop2 .ensures) v
 
 same-length-4 : tie.Need-same-length-4
-same-length-4 c = search needs
+same-length-4 c = c .before .before .before .before .before .before .answer .kept .1 .0
 
 same-length-5 : tie.Need-same-length-5
-same-length-5 c = search needs
+same-length-5 c = c .before .before .before .before .before .before .answer .kept .1 .1 .0
 
 same-length-6 : tie.Need-same-length-6
-same-length-6 c = search needs
+same-length-6 c = c .before .before .before .before .before .before .answer .kept .1 .1 .1 .1 .1 .1 .0
 
 returns-4 : tie.Need-returns-4
 returns-4 c = λ u v.

@@ -1,3 +1,4 @@
+-- `write_answer`: four fields, one behind the other.
 use native.Mathlib.Omega.{arith}
 use borrow.Author.Needs.{needs}
 use lib.ListN.{length-append}
@@ -5,17 +6,18 @@ use denote.Ref.{now}
 use Rattle.octets.proofs.Areas.{wrote-more, wrote-length}
 use Rattle.log.specs.Text.{digits, decimal, space, lineEnd, answerLine}
 use Rattle.log.proofs.Text.{length-digits, length-hexadecimal, wrote-on}
+use mathlib.Core.Path.{_∙_}
 use Rattle.log.proofs.write_answer.Statement.{statement}
 use Rattle.log.proofs.write_answer.Tie as tie
 
 write-digits-requires : tie.Need-write-digits-requires
-write-digits-requires c κs = search needs
+write-digits-requires c κs = omega (arith, c .before .before .before .pre)
 
 slice-aggregate-copy : tie.Need-slice-aggregate-copy
 slice-aggregate-copy c = search needs
 
 copy-requires : tie.Need-copy-requires
-copy-requires c κs = search needs
+copy-requires c κs = tt
 
 write-hexadecimal-requires : tie.Need-write-hexadecimal-requires
 write-hexadecimal-requires c κs = let a = c .before .before .before .before .before .before .before .before .before .before .before .before .args in
@@ -27,10 +29,10 @@ slice-aggregate-copy-2 : tie.Need-slice-aggregate-copy-2
 slice-aggregate-copy-2 c = search needs
 
 copy-requires-2 : tie.Need-copy-requires-2
-copy-requires-2 c κs = search needs
+copy-requires-2 c κs = tt
 
 same-length : tie.Need-same-length
-same-length c = search needs
+same-length c = c .before .before .copy2 .kept .0 ∙ c .before .before .before .before .before .before .before .write-hexadecimal .kept .0 ∙ c .before .before .before .before .before .before .before .before .before .before .before .copy .kept .0 ∙ c .before .before .before .before .before .before .before .before .before .before .before .before .before .before .before .before .write-digits .kept .0
 
 returns : tie.Need-returns
 unfolding answerLine decimal

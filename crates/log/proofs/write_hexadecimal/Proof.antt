@@ -1,3 +1,4 @@
+-- `write_hexadecimal`: before each turn the octets passed stand there in hexadecimal.
 use Prim.Native.Nat.{_-_, _≤_}
 use native.Mathlib.Omega.{arith}
 use lib.ListN.{length, take}

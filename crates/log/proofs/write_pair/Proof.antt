@@ -1,3 +1,4 @@
+-- `write_pair`: two stores side by side.
 use mathlib.Core.Path.{refl}
 use native.Mathlib.Omega.{arith}
 use borrow.Author.Needs.{needs}

@@ -1,3 +1,4 @@
+-- `write_stop`: two lines, one behind the other.
 use Prim.Native.Nat.{_+_}
 use native.Mathlib.Omega.{arith}
 use borrow.Author.Needs.{needs}

@@ -1,3 +1,4 @@
+-- `write_words`: three fields, one behind the other.
 use native.Mathlib.Omega.{arith}
 use borrow.Author.Needs.{needs}
 use lib.ListN.{length-append}
@@ -5,11 +6,12 @@ use denote.Ref.{now}
 use Rattle.octets.proofs.Areas.{wrote-none, wrote-more, wrote-length}
 use Rattle.log.specs.Text.{decimal, lineEnd, worded}
 use Rattle.log.proofs.Text.{length-digits, wrote-on}
+use mathlib.Core.Path.{_∙_}
 use Rattle.log.proofs.write_words.Statement.{statement}
 use Rattle.log.proofs.write_words.Tie as tie
 
 copy-requires : tie.Need-copy-requires
-copy-requires c κs = search needs
+copy-requires c κs = tt
 
 write-digits-requires : tie.Need-write-digits-requires
 write-digits-requires c κs = let a = c .before .before .before .before .before .before .before .args in
@@ -20,10 +22,10 @@ slice-aggregate-copy : tie.Need-slice-aggregate-copy
 slice-aggregate-copy c = search needs
 
 copy-requires-2 : tie.Need-copy-requires-2
-copy-requires-2 c κs = search needs
+copy-requires-2 c κs = tt
 
 same-length : tie.Need-same-length
-same-length c = search needs
+same-length c = c .before .before .copy2 .kept .0 ∙ c .before .before .before .before .before .before .before .write-digits .kept .0 ∙ c .before .before .before .before .before .before .before .before .before .before .before .copy .kept .0
 
 returns : tie.Need-returns
 unfolding worded decimal
