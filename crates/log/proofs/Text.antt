@@ -1,14 +1,15 @@
 -- Laws of the text: how long it is, and how it is written digit by digit.
-use Prim.Native.Nat.{ℕ, zero, suc, _+_, _-_, _*_, _/_, _%_, _≤_, _<_}
+use Prim.Native.Nat.{ℕ, zero, suc, _+_, _-_, _*_, _/_, _%_, _^_, _≤_, _<_}
 use mathlib.Core.Path.{_≡_, refl, _∙_}
 use mathlib.Core.Bool.{Bool, true, false}
 use mathlib.Core.List.{List, [], _∷_, _++_}
 use native.Mathlib.Omega.{arith}
+use native.Mathlib.Nat.{pow-suc}
 use native.Mathlib.Numerals.{add-one}
 use lib.ListN.{length, take, getD, length-append}
 use lib.Seq.{sets-eq, take-suc}
 use lib.Dec.{ltb}
-use borrow.Author.Tests.{lt-ltb, le-ltb}
+use borrow.Author.Tests.{lt-ltb, le-ltb, ltb-false}
 use Rattle.octets.specs.Area.{Wrote}
 use Rattle.octets.specs.Reading.{pick}
 use Rattle.octets.proofs.Areas.{wrote-sets}
@@ -84,3 +85,42 @@ wrote-on {old} {v} {x} {w} h g = wrote-sets w h (g .holds) (g .next)
 -- what was written stands over the old content, and ends so many octets on
 pub wrote-over : {old v new : List ℕ} {at p : ℕ} → at + length v ≤ length old → Wrote old at v new p → (new ≡ over old at v) × (p - at ≡ length v)
 wrote-over {old} {v} {new} {at} {p} h w = (w .holds ∙ sets-eq v old at h, omega (arith, w .next))
+
+-- ---- what the digits of a number stand for
+
+-- read on behind a value
+abbrev pub readOn : ℕ → List ℕ → ℕ
+readOn x [] = x
+readOn x (c ∷ s) = readOn (x * 10 + (c - 48)) s
+
+read-snoc : (s : List ℕ) (x c : ℕ) → readOn x (s ++ (c ∷ [])) ≡ readOn x s * 10 + (c - 48)
+read-snoc [] x c = refl
+read-snoc (d ∷ s) x c = read-snoc s (x * 10 + (d - 48)) c
+
+-- they read as the number, if there are places enough
+pub digits-read : (k n : ℕ) → n < 10 ^ k → readOn 0 (digits k n) ≡ n
+unfolding digits
+digits-read zero n h = omega (arith, h)
+digits-read (suc k) n h = go (ltb n 10) refl (λ g. digits-read k (n / 10) g)
+  where
+    go : (b : Bool) → ltb n 10 ≡ b → (n / 10 < 10 ^ k → readOn 0 (digits k (n / 10)) ≡ n / 10) → readOn 0 (pick b ((48 + n) ∷ []) (digits k (n / 10) ++ ((48 + n % 10) ∷ []))) ≡ n
+    go true e f = omega arith
+    go false e f = rw (read-snoc (digits k (n / 10)) 0 (48 + n % 10), f (omega (arith, h, pow-suc 10 k))) (omega arith)
+
+-- the first of some octets is the first of them with others behind
+first-append : (s t : List ℕ) → 48 < getD s 0 0 → getD (s ++ t) 0 0 ≡ getD s 0 0
+first-append [] t h = absurd (omega arith)
+first-append (c ∷ s) t h = refl
+
+-- and the first of them is no zero, but for the number 0
+pub digits-first : (k n : ℕ) → 0 < n → n < 10 ^ k → 48 < getD (digits k n) 0 0
+unfolding digits
+digits-first zero n p h = absurd (omega (arith, h))
+digits-first (suc k) n p h = go (ltb n 10) refl (λ q g. digits-first k (n / 10) q g)
+  where
+    go : (b : Bool) → ltb n 10 ≡ b → (0 < n / 10 → n / 10 < 10 ^ k → 48 < getD (digits k (n / 10)) 0 0)
+        → 48 < getD (pick b ((48 + n) ∷ []) (digits k (n / 10) ++ ((48 + n % 10) ∷ []))) 0 0
+    go true e f = omega arith
+    go false e f =
+        let g = f (omega (arith, ltb-false n 10 e)) (omega (arith, h, pow-suc 10 k)) in
+        rw (first-append (digits k (n / 10)) ((48 + n % 10) ∷ []) g) g

@@ -1,16 +1,17 @@
--- The theorems of this crate: what each answer of a turn says of the output, that the output does not depend on how the input is cut into pieces, and the limit of the
--- count. Document 01, 'The gate log program'.
+-- The theorems of this crate: what each answer of a turn says of the output, that the output does not depend on how the input is cut into pieces, the limit of the
+-- count, and numbers in decimal. Document 01, 'The gate log program'.
 use Prim.Native.Nat.{ℕ, zero, suc, _+_, _≤_, _<_}
 use mathlib.Core.Path.{_≡_, refl, sym, ap, _∙_}
 use mathlib.Core.Bool.{Bool, true, false}
 use mathlib.Core.List.{List, [], _∷_, _++_, append-assoc}
 use native.Mathlib.Omega.{arith}
-use lib.ListN.{length, drop, length-append, length-drop}
+use lib.ListN.{length, drop, getD, length-append, length-drop}
 use Rattle.store.specs.Model.{State}
-use Rattle.log.specs.Text.{badRecord, records}
+use Rattle.log.specs.Text.{decimal, badRecord, records}
 use Rattle.log.specs.Output.{outputFrom, output, firstUnit}
 use Rattle.log.specs.Turn.{Turned, more, answered, ended, turn}
 use Rattle.log.specs.Loop.{joined, goesOn, drivenFrom, driven}
+use Rattle.log.proofs.Text.{readOn, digits-read, digits-first}
 use Rattle.log.proofs.Fronts.{look-late}
 use Rattle.log.proofs.Outputs.{unrolled}
 use Rattle.log.proofs.Turns.{Means, turn-means}
@@ -78,3 +79,15 @@ pieces turns xs h = driven-output turns firstUnit 0 false [] xs (λ e. let z : _
 -- with 4,294,967,295 records answered any octet ends the log: it is of a bad record, the 4,294,967,296th
 pub limit : (u : State) (a : ℕ) (s : List ℕ) → outputFrom u 4294967295 (a ∷ s) ≡ badRecord 4294967296 ++ records 4294967295
 limit u a s = unrolled u 4294967295 (a ∷ s) ∙ rw (look-late 4294967295 (a ∷ s) (omega arith) (omega arith))
+
+-- ---- numbers
+
+-- a number that is printed reads as that number
+pub decimal-reads : (n : ℕ) → n ≤ 4294967296 → readOn 0 (decimal n) ≡ n
+unfolding decimal
+decimal-reads n h = digits-read 10 n (omega arith)
+
+-- and its first digit is no zero, but for the number 0
+pub decimal-first : (n : ℕ) → 0 < n → n ≤ 4294967296 → 48 < getD (decimal n) 0 0
+unfolding decimal
+decimal-first n p h = digits-first 10 n p (omega arith)
