@@ -7,10 +7,10 @@ use Rattle.gatelog.proofs.main.Statement.{statement}
 use Rattle.gatelog.proofs.main.Tie as tie
 
 new-requires : tie.Need-new-requires
-new-requires c κs = search needs
+new-requires c κs = tt
 
 start-requires : tie.Need-start-requires
-start-requires c κs = search needs
+start-requires c κs = tt
 
 enum-known-head : tie.Need-enum-known-head
 enum-known-head c = search needs
@@ -19,13 +19,13 @@ enum-told : tie.Need-enum-told
 enum-told c = search needs
 
 returns : tie.Need-returns
-returns c = search needs
+returns c = tt
 
 large-buffer-requires : tie.Need-large-buffer-requires
-large-buffer-requires c κs = search needs
+large-buffer-requires c κs = tt
 
 large-buffer-requires-2 : tie.Need-large-buffer-requires-2
-large-buffer-requires-2 c κs = search needs
+large-buffer-requires-2 c κs = tt
 
 slice-aggregate-run : tie.Need-slice-aggregate-run
 slice-aggregate-run c = search needs
@@ -43,7 +43,7 @@ run-requires : tie.Need-run-requires
 run-requires c κs = (start-sound _ 1 true true _ _ (rw (c .before .before .before .before .before .before .before .head .given .1) at (c .before .before .before .before .before .before .before .before .before .start .ensures)) (omega arith) (c .before .before .before .before .before .before .before .before .before .before .before .before .new .ensures), omega (arith, c .before .before .before .before .before .large-buffer .ensures))
 
 returns-2 : tie.Need-returns-2
-returns-2 c = search needs
+returns-2 c = tt
 
 pub main-spec : {M : Type 1} → statement M
 main-spec =
