@@ -6,7 +6,11 @@ use mathlib.Core.Bool.{Bool, true, false}
 use mathlib.Core.List.{List, [], _∷_, _++_, append-assoc}
 use native.Mathlib.Omega.{arith}
 use lib.ListN.{length, drop, getD, length-append, length-drop}
-use Rattle.store.specs.Model.{State}
+use borrow.Author.Tests.{le-ltb}
+use Rattle.octets.specs.declared.Port.{Port}
+use Rattle.answers.specs.Answer.{Answer}
+use Rattle.store.specs.Model.{State, Valid}
+use Rattle.responder.specs.Respond.{replied, handled, respond}
 use Rattle.log.specs.Text.{decimal, badRecord, records}
 use Rattle.log.specs.Output.{outputFrom, output, firstUnit}
 use Rattle.log.specs.Turn.{Turned, more, answered, ended, turn}
@@ -34,6 +38,11 @@ module _ (u : State) (n : ℕ) (last : Bool) (s : List ℕ) where
   -- more is wanted only while more may come, and only of fewer octets than the longest record has
   pub turn-more : turn u n last s ≡ more → (last ≡ false) × (length s < 2053)
   turn-more e = rw e at (turn-means u n s [] last)
+
+-- a unit that is in order has an answer to every record
+pub always-answered : (u : State) (p : Port) (r : List ℕ) → Valid u → (a : Answer) × (respond u p r 2048 .result ≡ replied a)
+unfolding respond
+always-answered u p r v = (handled u p r .reply, rw (le-ltb 2048 (u .limits .message) (omega (arith, v .shared .message))))
 
 -- ---- however the input is cut
 

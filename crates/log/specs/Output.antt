@@ -10,7 +10,7 @@ use Rattle.responder.specs.Respond.{Result, silent, replied, respond}
 use Rattle.log.specs.Text.{answerLine, badRecord, records}
 use Rattle.log.specs.Record.{Front, nothing, wrong, cut, whole, frontAfter}
 
--- the octets of an answer; an area of 2,048 octets is never too short, so that there always is one
+-- the octets of an answer; an area of 2,048 octets is never too short, so that there always is one (proofs/Theorems, `always-answered`)
 abbrev pub spoken : Result → List ℕ
 spoken (silent n) = []
 spoken (replied a) = answerOctets a

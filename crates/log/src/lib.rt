@@ -127,6 +127,7 @@ enum Front {
     Whole { port: Port, len: usize },
 }
 
+// The port of a record; 0 or 1.
 fn port_of(n: u8) -> Port
     ensures { λ r. ⌜ r ≡ portOf n ⌝ }
 {
@@ -174,6 +175,7 @@ fn look(answered: u32, s: &[u8]) -> Front
     }
 }
 
+// How many octets the answer has. An area of 2,048 octets is never too short for it.
 fn length_of(sent: Sent) -> usize
     ensures { λ r. ⌜ r ≡ lengthOf sent ⌝ }
 {
