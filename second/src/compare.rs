@@ -2,15 +2,25 @@
 //! Rules: a pair of operation and outcome is counted as document 01's lines decide it; the table of pairs that a
 //! gate log can reach is `REACHABLE`, and a comparison that misses one of them has not compared enough.
 
-use crate::draw::{draw_log, Ending, Log};
+use crate::draw::{draw_log, draw_single_log, Ending, Log, ENDINGS};
 use crate::log::{hexadecimal, run_log};
 use crate::wrong::NAMES;
-use std::collections::BTreeMap;
+use std::collections::btree_map::{BTreeMap, Entry};
 use std::io::{self, Read, Write};
 use std::process::{Command, Stdio};
 
 /// The answer is no denial.
 const ANSWERED: u8 = 0;
+
+/// Log 0 of a seed is one long log that ends whole: what only large numbers and a long history show.
+const LONG_LOG: usize = 200_000;
+
+fn log_of(seed: u64, number: u64) -> Log {
+    match number {
+        0 => draw_single_log(seed, LONG_LOG),
+        _ => draw_log(seed, number),
+    }
+}
 
 /// The outcomes that a gate log can reach, by operation; none is a request that does not decode.
 /// The unit has version 1 and both options, no tag is ever fitted by the vehicle, and the answer area is long enough.
@@ -84,14 +94,19 @@ impl Counts {
         writeln!(output, "{records} records, {logs} logs, no difference")
     }
 
-    /// The reachable pairs that did not occur.
-    fn missing(&self) -> Vec<(Option<u8>, u8)> {
+    /// The reachable pairs and the endings that did not occur.
+    fn missing(&self) -> Vec<String> {
         let reachable = REACHABLE.iter().flat_map(|(operation, outcomes)| {
             outcomes.iter().map(move |outcome| (*operation, *outcome))
         });
-        reachable
+        let pairs = reachable
             .filter(|pair| !self.pairs.contains_key(pair))
-            .collect()
+            .map(|(operation, outcome)| pair_words(operation, outcome));
+        let endings = ENDINGS
+            .iter()
+            .filter(|ending| !self.endings.contains_key(ending))
+            .map(|ending| ending.words().to_string());
+        pairs.chain(endings).collect()
     }
 }
 
@@ -120,7 +135,8 @@ fn pair_words(operation: Option<u8>, outcome: u8) -> String {
     }
 }
 
-/// Compares the program with this one; true if there is no difference and every reachable pair occurred.
+/// Compares the program with this one, on the long log and then on so many records more; true if there is no
+/// difference and everything reachable occurred.
 pub fn compare(
     seed: u64,
     records: usize,
@@ -129,31 +145,26 @@ pub fn compare(
 ) -> io::Result<bool> {
     writeln!(output, "seed {seed}")?;
     let mut counts = Counts::default();
-    while counts.records < records {
-        let number = counts.logs + 1;
-        let log = draw_log(seed, number);
+    while counts.records < LONG_LOG + records {
+        let number = counts.logs;
+        let log = log_of(seed, number);
         let ours = own_output(&log.octets)?;
         let theirs = output_of(program, &log.octets)?;
         if let Some(difference) = first_difference(number, &log, &ours, &theirs) {
-            print_difference(output, seed, records, &difference)?;
+            print_difference(output, seed, &difference)?;
             return Ok(false);
         }
         counts.add(&log, &ours);
     }
     counts.print(output)?;
     let missing = counts.missing();
-    for (operation, outcome) in &missing {
-        writeln!(output, "{} did not occur", pair_words(*operation, *outcome))?;
+    for words in &missing {
+        writeln!(output, "{words} did not occur")?;
     }
     Ok(missing.is_empty())
 }
 
-fn print_difference(
-    output: &mut impl Write,
-    seed: u64,
-    records: usize,
-    difference: &Difference,
-) -> io::Result<()> {
+fn print_difference(output: &mut impl Write, seed: u64, difference: &Difference) -> io::Result<()> {
     let log = difference.log;
     writeln!(
         output,
@@ -163,10 +174,13 @@ fn print_difference(
     writeln!(output, "record {}", hexadecimal(&difference.octets))?;
     writeln!(output, "ours   {}", difference.ours)?;
     writeln!(output, "theirs {}", difference.theirs)?;
-    writeln!(
-        output,
-        "second draw --seed {seed} --records {records} --log {log}"
-    )
+    match log {
+        0 => writeln!(
+            output,
+            "second draw --seed {seed} --records {LONG_LOG} --single"
+        ),
+        _ => writeln!(output, "second draw --seed {seed} --log {log}"),
+    }
 }
 
 /// What this program's own gate log program prints.
@@ -177,8 +191,8 @@ pub fn own_output(octets: &[u8]) -> io::Result<Vec<u8>> {
     Ok(output)
 }
 
-/// What the program prints for the log. A program may stop reading at a bad record, so a closed pipe is no fault.
-/// Document 01 says nothing of a program's exit status, and none is asked for.
+/// What the program prints for the log. A program may stop reading at a bad record, so a closed pipe is no fault; to
+/// end by a signal or with a status other than 0 is one.
 fn output_of(program: &[String], octets: &[u8]) -> io::Result<Vec<u8>> {
     let mut child = Command::new(&program[0])
         .args(&program[1..])
@@ -194,7 +208,11 @@ fn output_of(program: &[String], octets: &[u8]) -> io::Result<Vec<u8>> {
         });
         output.read_to_end(&mut printed)
     })?;
-    child.wait()?;
+    let status = child.wait()?;
+    if !status.success() {
+        let words = format!("{}: {status}", program.join(" "));
+        return Err(io::Error::other(words));
+    }
     Ok(printed)
 }
 
@@ -237,7 +255,7 @@ pub fn tell_apart(
     output: &mut impl Write,
 ) -> io::Result<bool> {
     writeln!(output, "seed {seed}")?;
-    let mut logs: Vec<(Log, Vec<u8>)> = Vec::new();
+    let mut logs = BTreeMap::new();
     let mut told = 0;
     for (name, _) in NAMES {
         let words = ["log", "--wrong", name].map(str::to_string);
@@ -258,28 +276,31 @@ pub fn tell_apart(
     Ok(told == NAMES.len())
 }
 
-/// Where the program is first noticed; the logs drawn so far are kept for the next program.
+/// Where the program is first noticed, in so many records or in the long log; the logs drawn so far are kept for the
+/// next program.
 fn notice(
     seed: u64,
     records: usize,
     program: &[String],
-    logs: &mut Vec<(Log, Vec<u8>)>,
+    logs: &mut BTreeMap<u64, (Log, Vec<u8>)>,
 ) -> io::Result<Option<(u64, usize)>> {
     let mut compared = 0;
-    let mut place = 0;
-    while compared < records {
-        if place == logs.len() {
-            let log = draw_log(seed, place as u64 + 1);
+    let mut number = 0;
+    loop {
+        number = if compared < records { number + 1 } else { 0 };
+        if let Entry::Vacant(place) = logs.entry(number) {
+            let log = log_of(seed, number);
             let ours = own_output(&log.octets)?;
-            logs.push((log, ours));
+            place.insert((log, ours));
         }
-        let (log, ours) = &logs[place];
-        place += 1;
+        let (log, ours) = &logs[&number];
         let theirs = output_of(program, &log.octets)?;
-        if let Some(difference) = first_difference(place as u64, log, ours, &theirs) {
+        if let Some(difference) = first_difference(number, log, ours, &theirs) {
             return Ok(Some((difference.log, difference.record)));
+        }
+        if number == 0 {
+            return Ok(None);
         }
         compared += log.records();
     }
-    Ok(None)
 }

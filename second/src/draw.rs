@@ -42,7 +42,9 @@ impl Ending {
     }
 }
 
-const BAD_ENDINGS: [Ending; 9] = [
+pub const ENDINGS: [Ending; 11] = [
+    Ending::EmptyInput,
+    Ending::Whole,
     Ending::WrongMark,
     Ending::PortAbove1,
     Ending::LengthAbove2048,
@@ -99,7 +101,7 @@ pub fn draw_log(seed: u64, number: u64) -> Log {
     let ending = if random.chance(40) {
         Ending::Whole
     } else {
-        random.pick(&BAD_ENDINGS)
+        random.pick(&ENDINGS[2..])
     };
     let mut drawing = Drawing::new(random, records);
     drawing.draw_records();

@@ -25,7 +25,11 @@ pub fn run_log(
     output: &mut impl Write,
     wrong: Option<Wrong>,
 ) -> io::Result<()> {
-    run_log_to(input, output, wrong, RECORD_LIMIT)
+    let record_limit = match wrong {
+        Some(Wrong::FiveThousandRecords) => 5000,
+        _ => RECORD_LIMIT,
+    };
+    run_log_to(input, output, wrong, record_limit)
 }
 
 /// The same with a limit of records that a test can reach.
@@ -46,7 +50,11 @@ pub fn run_log_to(
                 let answer = unit
                     .respond(port, &request[..length], ANSWER_AREA)
                     .expect("the answer area is long enough");
-                write_line(output, answered, &answer)?;
+                let number = match wrong {
+                    Some(Wrong::NumberOfFourDigits) => answered % 10_000,
+                    _ => answered,
+                };
+                write_line(output, number, &answer)?;
             }
             _ => {
                 writeln!(output, "bad record {}", answered + 1)?;

@@ -360,10 +360,10 @@ impl Unit {
 
     /// Whether one more tag with this size finds room; freed room is used again.
     fn has_room(&self, size: u64) -> bool {
-        let in_use = if self.is_wrong(Wrong::FreedRoomNotUsedAgain) {
-            self.ever_granted
-        } else {
-            self.octets_in_use()
+        let in_use = match self.wrong {
+            Some(Wrong::FreedRoomNotUsedAgain) => self.ever_granted,
+            Some(Wrong::GrantedOctetsOverflow) if self.ever_granted >= 1 << 20 => return false,
+            _ => self.octets_in_use(),
         };
         self.tags.len() < self.limits.tags && in_use + size <= self.limits.memory
     }

@@ -64,12 +64,15 @@ pub enum Wrong {
     ReservedModeBitsIgnored,
     LengthFormC0Accepted,
     LongerLengthFormAccepted,
+    FiveThousandRecords,
+    NumberOfFourDigits,
+    GrantedOctetsOverflow,
 }
 
 use Wrong::*;
 
 /// Every wrong program by its name.
-pub const NAMES: [(&str, Wrong); 56] = [
+pub const NAMES: [(&str, Wrong); 59] = [
     ("password_unchecked_in_bulk", PasswordUncheckedInBulk),
     (
         "password_for_unprotected_tag_let_through",
@@ -150,6 +153,10 @@ pub const NAMES: [(&str, Wrong); 56] = [
     ("reserved_mode_bits_ignored", ReservedModeBitsIgnored),
     ("length_form_c0_accepted", LengthFormC0Accepted),
     ("longer_length_form_accepted", LongerLengthFormAccepted),
+    // What only a long log shows.
+    ("five_thousand_records", FiveThousandRecords),
+    ("number_of_four_digits", NumberOfFourDigits),
+    ("granted_octets_overflow", GrantedOctetsOverflow),
 ];
 
 /// The wrong program of this name.
