@@ -53,7 +53,7 @@ fn move_down(input: &mut [u8], start: usize, end: usize)
     }
 }
 
-// Reads behind the octets at hand, of which there are fewer than the buffer holds.
+// Reads behind the octets at hand, of which there are fewer than the buffer holds. A read that fails says so, and is the end of the input.
 fn read_more(mut place: Place, input: &mut [u8]) -> Place
     requires { ⌜ (place .start ≤ place .end) × (place .end ≤ length (now input)) × (place .end - place .start < length (now input)) ⌝ }
     ensures { λ r. ⌜ Refilled place r (now (input .entry)) (now (input .exit)) ⌝ }
@@ -61,6 +61,9 @@ fn read_more(mut place: Place, input: &mut [u8]) -> Place
     let n = place.end - place.start;
     move_down(input, place.start, place.end);
     let got = libc::read(libc::STDIN_FILENO, &mut input[n..]);
+    if got < 0 {
+        os::fail(b"read");
+    }
     let more = io::count(got, &input[n..]);
     place.start = 0;
     place.end = n + more;

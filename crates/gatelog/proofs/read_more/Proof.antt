@@ -29,6 +29,12 @@ part-read-end c = search needs
 read-requires : tie.Need-read-requires
 read-requires c κs = search needs
 
+slice-aggregate-fail : tie.Need-slice-aggregate-fail
+slice-aggregate-fail c = search needs
+
+fail-requires : tie.Need-fail-requires
+fail-requires c κs = search needs
+
 sub-count : tie.Need-sub-count
 sub-count c = search needs
 
@@ -48,15 +54,15 @@ same-length : tie.Need-same-length
 same-length c = search needs
 
 returns : tie.Need-returns
-returns c = let p = c .before .before .before .before .before .before .before .before .before .before .before .before .before .args .place in
-    let s = now (c .before .before .before .before .before .before .before .before .before .before .before .before .before .args .input) in
+returns c = let p = c .before .before .before .before .before .before .before .before .before .before .before .before .before .before .args .place in
+    let s = now (c .before .before .before .before .before .before .before .before .before .before .before .before .before .before .args .input) in
     let v : List ℕ = take (p .end - p .start) (drop (p .start) s) in
-    let l : length v ≡ p .end - p .start = length-take-le (p .end - p .start) (drop (p .start) s) (omega (arith, length-drop (p .start) s, c .before .before .before .before .before .before .before .before .before .before .before .before .before .pre .1)) in
+    let l : length v ≡ p .end - p .start = length-take-le (p .end - p .start) (drop (p .start) s) (omega (arith, length-drop (p .start) s, c .before .before .before .before .before .before .before .before .before .before .before .before .before .before .pre .1)) in
     record {
       head = refl;
       answered = refl;
       start = refl;
-      held = front-held s (c .before .before .before .before .before .before .before .before .before .move-down .last .0) (c .before .before .before .before .before .read .last .1 .0) v _ (length (c .before .before .before .before .before .before .before .before .before .move-down .last .0) - (p .end - p .start)) (omega (arith, c .before .before .before .before .before .before .before .before .before .before .before .before .before .pre .1)) l (c .before .before .before .before .before .before .before .before .before .move-down .kept .0) (c .before .before .before .before .before .before .before .before .before .move-down .ensures);
+      held = front-held s (c .before .before .before .before .before .before .before .before .before .before .move-down .last .0) (c .before .before .before .before .before .before .read .last .1 .0) v _ (length (c .before .before .before .before .before .before .before .before .before .before .move-down .last .0) - (p .end - p .start)) (omega (arith, c .before .before .before .before .before .before .before .before .before .before .before .before .before .before .pre .1)) l (c .before .before .before .before .before .before .before .before .before .before .move-down .kept .0) (c .before .before .before .before .before .before .before .before .before .before .move-down .ensures);
       end = (omega arith, search needs);
       last = none-read (p .end - p .start) (c .count .result);
       filled = refl;
@@ -72,6 +78,8 @@ read-more-spec =
     part-read-start
     part-read-end
     read-requires
+    slice-aggregate-fail
+    fail-requires
     sub-count
     part-count-start
     part-count-end
