@@ -35,11 +35,12 @@ pub record Holds (u : State) (x : Slices) : Type 0 where
   pub words : x .head ≡ headWords (headOf u)
   pub shown : Shows u (headOf u) (x .table) (x .memory)
 
-pub record Some (x : Slices) : Type 0 where
+-- they stand for some unit
+pub record Stands (x : Slices) : Type 0 where
   pub unit : State
   pub holds : Holds unit x
 
 -- the slices are what these functions left: "this is all that an entry may take for granted of the unit handed to it". Of slices that have not a unit's lengths nothing
 -- is asked
 pub record Kept (head table memory : List ℕ) : Type 0 where
-  pub stands : lent (slices head table memory) ≡ true → Some (slices head table memory)
+  pub stands : lent (slices head table memory) ≡ true → Stands (slices head table memory)
