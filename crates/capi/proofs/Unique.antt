@@ -35,12 +35,12 @@ holds-unique u x y a b =
     rw (h, w .1, w .2)
 
 -- a line is a number or none
-line-case : (P : Type 0) (l : Line) → ((n : ℕ) → l ≡ number n → P) → (l ≡ none → P) → P
+pub line-case : (P : Type 0) (l : Line) → ((n : ℕ) → l ≡ number n → P) → (l ≡ none → P) → P
 line-case P (number n) f g = f n refl
 line-case P none f g = g refl
 
 -- where no line bars, the slices have a unit's lengths
-none-lent : (b : Bool) (n : ℕ) (x : Slices) → barredBy b n x ≡ none → lent x ≡ true
+pub none-lent : (b : Bool) (n : ℕ) (x : Slices) → barredBy b n x ≡ none → lent x ≡ true
 none-lent true n x e = absurd (not-none e)
 none-lent false n x e = go (lent x) e
   where
