@@ -7,7 +7,7 @@ ghost use mathlib.Core.List.{[]};
 ghost use Prim.Native.Nat.{_+_, _<_, _≤_};
 ghost use lib.ListN.{length, getD, replicate};
 ghost use lib.Seq.{sets};
-ghost use Rattle.octets.specs.Area.{done, refused, outcome};
+ghost use Rattle.octets.specs.Area.{refused, outcome};
 ghost use Rattle.tags.specs.Entry.{formOf};
 ghost use Rattle.lists.specs.Handed.{keysOf};
 ghost use Rattle.requests.specs.Command.{formNumber};
