@@ -5,22 +5,24 @@ ghost use mathlib.Core.Path.{_≡_};
 ghost use Prim.Native.Nat.{_-_, _≤_, _<_};
 ghost use lib.ListN.{length, take, drop};
 ghost use lib.Seq.{sets};
-ghost use Rattle.store.specs.Model.{Shows, Sound};
+ghost use Rattle.store.specs.Model.{State, Shows, Sound};
 ghost use Rattle.log.specs.Output.{firstUnit};
-ghost use Rattle.gatelog.specs.Place.{Emptied, Refilled, Within};
+ghost use Rattle.log.specs.Entry.{stepOut};
+ghost use Rattle.gatelog.specs.Place.{Within, atHand, Emptied, Tried, Refilled, TurnTaken};
 use admission::Head;
 use log::Turn;
 use store::Start;
 use store::Unit;
 
 // Where the program stands: the unit's head, how many records are answered, the octets at hand (from `start` to `end` of the input buffer), how many characters are not
-// yet written, whether the input is at its end, and whether to go on.
+// yet written, how many were handed over to be written last, whether the input is at its end, and whether to go on.
 struct Place {
     head: Head,
     answered: u32,
     start: usize,
     end: usize,
     filled: usize,
+    handed: usize,
     last: bool,
     going: bool,
 }
@@ -28,11 +30,12 @@ struct Place {
 // Writes what is not yet written.
 fn write_out(mut place: Place, out: &[u8]) -> Place
     requires { ⌜ place .filled ≤ length (now out) ⌝ }
-    ensures { λ r. ⌜ Emptied place r ⌝ }
+    ensures { λ r. ⌜ (r .head ≡ place .head) × Emptied (place .filled) place r × Tried place r ⌝ }
 {
-    let filled = place.filled;
+    let handed = place.filled;
     place.filled = 0;
-    if io::write_all(libc::STDOUT_FILENO, &out[..filled]) {
+    place.handed = handed;
+    if io::write_all(libc::STDOUT_FILENO, &out[..handed]) {
         return place;
     }
     os::fail(b"write");
@@ -56,7 +59,7 @@ fn move_down(input: &mut [u8], start: usize, end: usize)
 // Reads behind the octets at hand, of which there are fewer than the buffer holds. A read that fails says so, and is the end of the input.
 fn read_more(mut place: Place, input: &mut [u8]) -> Place
     requires { ⌜ (place .start ≤ place .end) × (place .end ≤ length (now input)) × (place .end - place .start < length (now input)) ⌝ }
-    ensures { λ r. ⌜ Refilled place r (now (input .entry)) (now (input .exit)) ⌝ }
+    ensures { λ r. ⌜ (r .head ≡ place .head) × Refilled place r (now (input .entry)) (now (input .exit)) ⌝ }
 {
     let n = place.end - place.start;
     move_down(input, place.start, place.end);
@@ -71,7 +74,7 @@ fn read_more(mut place: Place, input: &mut [u8]) -> Place
     place
 }
 
-// One step of the log. Before it reads, everything that was answered is written.
+// One turn: `log::step` on the octets at hand, and what it says of them done (specs/Place, `TurnTaken`). Before it reads, everything that was answered is written.
 fn go_on(
     mut place: Place,
     table: &mut [u64],
@@ -83,6 +86,9 @@ fn go_on(
     requires { ⌜ Within place (now input) (now out) ⌝ }
     requires { ⌜ 2053 ≤ length (now input) ⌝ }
     ensures { λ r. ⌜ Sound (r .head) (now (table .exit)) (now (pool .exit)) × Within r (now (input .exit)) (now (out .exit)) ⌝ }
+    ensures { λ r. ⌜ ((u : State) → Shows u (place .head) (now (table .entry)) (now (pool .entry))
+        → TurnTaken (stepOut u (place .answered) (place .last) (atHand place (now (input .entry))) (now (out .entry)) (place .filled)) place r
+        (now (input .entry)) (now (input .exit)) (now (out .exit)) (now (table .exit)) (now (pool .exit))) ⌝ }
 {
     let start = place.start;
     let filled = place.filled;
@@ -135,6 +141,7 @@ fn run(head: Head, table: &mut [u64], pool: &mut [u8], input: &mut [u8], out: &m
         start: 0,
         end: 0,
         filled: 0,
+        handed: 0,
         last: false,
         going: true,
     };

@@ -1,14 +1,16 @@
--- `go_on`: what a caller of `log::step` learns (log/proofs/Callers) keeps every place within its buffer and the unit sound.
-use mathlib.Core.Path.{_≡_, refl}
+-- `go_on`: what a caller of `log::step` learns (log/proofs/Callers) keeps every place within its buffer and the unit sound; and each case does what the step says.
+use mathlib.Core.Path.{_≡_, refl, ap, _∙_}
 use Prim.Native.Nat.{_-_}
 use native.Mathlib.Omega.{arith}
 use borrow.Author.Needs.{needs}
 use lib.ListN.{length, drop, length-drop}
 use lib.Seq.{length-take-le}
 use denote.Ref.{now}
-use Rattle.store.specs.Model.{Sound}
-use Rattle.log.specs.Entry.{wordOf}
+use Rattle.store.specs.Model.{State, Shows, Sound}
+use Rattle.log.specs.Entry.{wordOf, stepOut, Stepped}
 use Rattle.log.proofs.Callers.{Learns, step-learns, step-sound}
+use Rattle.gatelog.specs.Place.{atHand}
+use Rattle.gatelog.proofs.Turns.{taken, emptied, stopped, both-ways}
 use Rattle.gatelog.proofs.go_on.Statement.{statement}
 use Rattle.gatelog.proofs.go_on.Tie as tie
 
@@ -26,6 +28,11 @@ learns c = let s = c .before .before .before .before .before .before .before .be
 -- the unit stays sound
 sounds : (c : tie.After-step) → Sound (c .step .result .head) (c .step .last .1 .0) (c .step .last .1 .1 .0)
 sounds c = let s = c .before .before .before .before .before .before .before .before .before .before .before .pre .0 in step-sound (s .unit) _ _ _ _ _ _ _ _ _ (c .step .ensures (s .unit) (s .shown))
+
+-- what the step does with the octets at hand
+outcome : (c : tie.After-step) (u : State) → Shows u (c .before .before .before .before .before .before .before .before .before .before .before .args .place .head) (now (c .before .before .before .before .before .before .before .before .before .before .before .args .table)) (now (c .before .before .before .before .before .before .before .before .before .before .before .args .pool))
+    → Stepped (stepOut u (c .before .before .before .before .before .before .before .before .before .before .before .args .place .answered) (c .before .before .before .before .before .before .before .before .before .before .before .args .place .last) (atHand (c .before .before .before .before .before .before .before .before .before .before .before .args .place) (now (c .before .before .before .before .before .before .before .before .before .before .before .args .input))) (now (c .before .before .before .before .before .before .before .before .before .before .before .args .out)) (c .before .before .before .before .before .before .before .before .before .before .before .args .place .filled)) (c .step .result) (c .step .last .1 .1 .1 .1 .1 .1 .0) (c .step .last .1 .0) (c .step .last .1 .1 .0)
+outcome c u s = rw (c .before .before .before .before .part .ensures) at (c .step .ensures u s)
 
 sub-part : tie.Need-sub-part
 sub-part c = search needs
@@ -58,7 +65,7 @@ read-more-requires : tie.Need-read-more-requires
 read-more-requires c κs = let l = rw (c .before .before .before .before .enum-told .given .1) at (learns (c .before .before .before .before .before .before .before .before .before .before .before .before .before)) in
     let w = c .before .before .before .before .before .before .before .before .before .before .before .before .before .before .before .before .before .before .before .before .before .before .before .before .pre .1 .0 in
     let e = c .before .before .write-out .ensures in
-    (omega (arith, e .start, e .end, w .order), omega (arith, e .end, w .inside), omega (arith, e .start, e .end, l .1, c .before .before .before .before .before .before .before .before .before .before .before .before .before .before .before .before .before .before .before .before .before .before .before .before .pre .1 .1))
+    (omega (arith, e .1 .start, e .1 .end, w .order), omega (arith, e .1 .end, w .inside), omega (arith, e .1 .start, e .1 .end, l .1, c .before .before .before .before .before .before .before .before .before .before .before .before .before .before .before .before .before .before .before .before .before .before .before .before .pre .1 .1))
 
 enum-told-2 : tie.Need-enum-told-2
 enum-told-2 c = search needs
@@ -90,7 +97,7 @@ same-length-4 c = c .before .before .before .before .before .before .before .bef
 returns : tie.Need-returns
 returns c = let l = rw (c .before .before .turn .given .1) at (learns (c .before .before .before .before .before .before .before .before .before .before .before)) in
     let w = c .before .before .before .before .before .before .before .before .before .before .before .before .before .before .before .before .before .before .before .before .before .before .pre .1 .0 in
-    (sounds (c .before .before .before .before .before .before .before .before .before .before .before), record { order = omega (arith, l .2, w .order); inside = w .inside; room = omega (arith, l .3, c .before .before .before .before .before .before .before .before .before .before .before .step .kept .1 .1 .1 .1 .1 .1 .0) })
+    ((sounds (c .before .before .before .before .before .before .before .before .before .before .before), record { order = omega (arith, l .2, w .order); inside = w .inside; room = omega (arith, l .3, c .before .before .before .before .before .before .before .before .before .before .before .step .kept .1 .1 .1 .1 .1 .1 .0) }), λ u s. taken (c .before .before .before .before .before .before .before .before .before .before .before .before .before .before .before .before .before .before .before .before .before .before .args .place) _ _ _ _ _ _ _ _ _ (outcome (c .before .before .before .before .before .before .before .before .before .before .before) u s) (ap wordOf (c .before .before .turn .given .1)) refl (record { answered = refl; start = refl; end = refl; filled = refl; handed = refl; last = refl; going = refl }, refl))
 
 same-length-5 : tie.Need-same-length-5
 same-length-5 c = c .before .before .before .before .before .before .before .before .before .before .before .before .before .before .before .before .step .kept .1 .0
@@ -107,7 +114,7 @@ same-length-8 c = c .before .before .before .before .before .before .before .bef
 returns-2 : tie.Need-returns-2
 returns-2 c = let m = c .before .before .read-more .ensures in
     let e = c .before .before .before .before .before .write-out .ensures in
-    (rw (m .head, e .head) (sounds (c .before .before .before .before .before .before .before .before .before .before .before .before .before .before .before .before)), record { order = omega (arith, m .start); inside = m .end .1; room = omega (arith, m .filled, e .filled) })
+    ((rw (m .0, e .0) (sounds (c .before .before .before .before .before .before .before .before .before .before .before .before .before .before .before .before)), record { order = omega (arith, m .1 .start); inside = m .1 .end .1; room = omega (arith, m .1 .filled, e .1 .filled) }), λ u s. taken (c .before .before .before .before .before .before .before .before .before .before .before .before .before .before .before .before .before .before .before .before .before .before .before .before .before .before .before .args .place) (c .before .before .read-more .result) _ _ _ _ _ _ _ _ (outcome (c .before .before .before .before .before .before .before .before .before .before .before .before .before .before .before .before) u s) (ap wordOf (c .before .before .before .before .before .before .before .enum-told .given .1)) (m .0 ∙ e .0) (record { between = c .before .before .before .before .before .write-out .result; emptied = emptied _ _ _ _ (e .1) refl refl refl refl; tried = e .2; refilled = λ _. m .1; left = both-ways _ (c .before .before .before .before .if1 .taken) }))
 
 same-length-9 : tie.Need-same-length-9
 same-length-9 c = c .before .before .before .before .before .before .before .before .before .before .before .before .step .kept .1 .0
@@ -124,7 +131,7 @@ same-length-12 c = c .before .before .before .before .before .before .before .be
 returns-3 : tie.Need-returns-3
 returns-3 c = let e = c .before .write-out .ensures in
     let w = c .before .before .before .before .before .before .before .before .before .before .before .before .before .before .before .before .before .before .before .before .before .before .before .pre .1 .0 in
-    (rw (e .head) (sounds (c .before .before .before .before .before .before .before .before .before .before .before .before)), record { order = omega (arith, e .start, e .end, w .order); inside = omega (arith, e .end, w .inside); room = omega (arith, e .filled) })
+    ((rw (e .0) (sounds (c .before .before .before .before .before .before .before .before .before .before .before .before)), record { order = omega (arith, e .1 .start, e .1 .end, w .order); inside = omega (arith, e .1 .end, w .inside); room = omega (arith, e .1 .filled) }), λ u s. taken (c .before .before .before .before .before .before .before .before .before .before .before .before .before .before .before .before .before .before .before .before .before .before .before .args .place) (c .before .write-out .result) _ _ _ _ _ _ _ _ (outcome (c .before .before .before .before .before .before .before .before .before .before .before .before) u s) (ap wordOf (c .before .before .before .enum-told .given .1)) (e .0) (record { between = c .before .write-out .result; emptied = emptied _ _ _ _ (e .1) refl refl refl refl; tried = e .2; refilled = λ q. both-ways _ q (c .if1 .left); left = λ _. (refl, refl) }))
 
 same-length-13 : tie.Need-same-length-13
 same-length-13 c = c .before .before .before .before .before .before .before .before .before .before .before .step .kept .1 .0
@@ -141,7 +148,7 @@ same-length-16 c = c .before .before .before .before .before .before .before .be
 returns-4 : tie.Need-returns-4
 returns-4 c = let e = c .write-out2 .ensures in
     let w = c .before .before .before .before .before .before .before .before .before .before .before .before .before .before .before .before .before .before .before .before .before .before .pre .1 .0 in
-    (rw (e .head) (sounds (c .before .before .before .before .before .before .before .before .before .before .before)), record { order = omega (arith, e .start, e .end, w .order); inside = omega (arith, e .end, w .inside); room = omega (arith, e .filled) })
+    ((rw (e .0) (sounds (c .before .before .before .before .before .before .before .before .before .before .before)), record { order = omega (arith, e .1 .start, e .1 .end, w .order); inside = omega (arith, e .1 .end, w .inside); room = omega (arith, e .1 .filled) }), λ u s. taken (c .before .before .before .before .before .before .before .before .before .before .before .before .before .before .before .before .before .before .before .before .before .before .args .place) (c .write-out2 .result) _ _ _ _ _ _ _ _ (outcome (c .before .before .before .before .before .before .before .before .before .before .before) u s) (ap wordOf (c .before .before .enum-told2 .given .1)) (e .0) (emptied _ _ _ _ (e .1) refl refl refl refl, e .2, refl))
 
 same-length-17 : tie.Need-same-length-17
 same-length-17 c = c .before .before .before .before .before .before .before .before .before .before .before .before .step .kept .1 .0
@@ -158,7 +165,7 @@ same-length-20 c = c .before .before .before .before .before .before .before .be
 returns-5 : tie.Need-returns-5
 returns-5 c = let e = c .write-out3 .ensures in
     let w = c .before .before .before .before .before .before .before .before .before .before .before .before .before .before .before .before .before .before .before .before .before .before .before .pre .1 .0 in
-    (rw (e .head) (sounds (c .before .before .before .before .before .before .before .before .before .before .before .before)), record { order = omega (arith, e .start, e .end, w .order); inside = omega (arith, e .end, w .inside); room = omega (arith, e .filled) })
+    ((rw (e .0) (sounds (c .before .before .before .before .before .before .before .before .before .before .before .before)), record { order = omega (arith, e .1 .start, e .1 .end, w .order); inside = omega (arith, e .1 .end, w .inside); room = omega (arith, e .1 .filled) }), λ u s. taken (c .before .before .before .before .before .before .before .before .before .before .before .before .before .before .before .before .before .before .before .before .before .before .before .args .place) (c .write-out3 .result) _ _ _ _ _ _ _ _ (outcome (c .before .before .before .before .before .before .before .before .before .before .before .before) u s) (ap wordOf (c .before .before .before .turn2 .given .1)) (e .0) (emptied _ _ _ _ (e .1) refl refl refl refl, stopped (e .2 .0) _ (e .2 .1), refl))
 
 pub go-on-spec : {M : Type 1} → statement M
 go-on-spec =

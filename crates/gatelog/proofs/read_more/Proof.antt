@@ -57,16 +57,19 @@ returns : tie.Need-returns
 returns c = let p = c .before .before .before .before .before .before .before .before .before .before .before .before .before .before .args .place in
     let s = now (c .before .before .before .before .before .before .before .before .before .before .before .before .before .before .args .input) in
     let v : List ℕ = take (p .end - p .start) (drop (p .start) s) in
-    let l : length v ≡ p .end - p .start = length-take-le (p .end - p .start) (drop (p .start) s) (omega (arith, length-drop (p .start) s, c .before .before .before .before .before .before .before .before .before .before .before .before .before .before .pre .1)) in
-    record {
-      head = refl;
-      answered = refl;
-      start = refl;
-      held = front-held s (c .before .before .before .before .before .before .before .before .before .before .move-down .last .0) (c .before .before .before .before .before .before .read .last .1 .0) v _ (length (c .before .before .before .before .before .before .before .before .before .before .move-down .last .0) - (p .end - p .start)) (omega (arith, c .before .before .before .before .before .before .before .before .before .before .before .before .before .before .pre .1)) l (c .before .before .before .before .before .before .before .before .before .before .move-down .kept .0) (c .before .before .before .before .before .before .before .before .before .before .move-down .ensures);
-      end = (omega arith, search needs);
-      last = none-read (p .end - p .start) (c .count .result);
-      filled = refl;
-    }
+    let l : length v ≡ p .end - p .start = length-take-le (p .end - p .start) (drop (p .start) s) (omega (arith, length-drop (p .start) s, c .before .before .before .before .before .before .before .before .before .before .before .before .before .before .pre .1)) in (
+      refl,
+      record {
+        answered = refl;
+        start = refl;
+        held = front-held s (c .before .before .before .before .before .before .before .before .before .before .move-down .last .0) (c .before .before .before .before .before .before .read .last .1 .0) v _ (length (c .before .before .before .before .before .before .before .before .before .before .move-down .last .0) - (p .end - p .start)) (omega (arith, c .before .before .before .before .before .before .before .before .before .before .before .before .before .before .pre .1)) l (c .before .before .before .before .before .before .before .before .before .before .move-down .kept .0) (c .before .before .before .before .before .before .before .before .before .before .move-down .ensures);
+        end = (omega arith, search needs);
+        last = none-read (p .end - p .start) (c .count .result);
+        filled = refl;
+        handed = refl;
+        going = refl;
+      },
+    )
 
 pub read-more-spec : {M : Type 1} → statement M
 read-more-spec =

@@ -30,7 +30,7 @@ loop-less c = omega arith
 loop-again : tie.Need-loop-again Inv-loop μ-loop
 loop-again c = let v = c .before .before .before .before .before .before .before .before .before .before .before .before .before .before .before .loop .inv in
     let g = c .before .before .before .before .before .before .before .before .go-on in
-    (g .ensures .0, g .ensures .1, omega (arith, v .2, g .kept .1 .1 .1 .0), g .kept .1 .0 ∙ v .3, g .kept .1 .1 .0 ∙ v .4, g .kept .1 .1 .1 .0 ∙ v .5, g .kept .1 .1 .1 .1 .0 ∙ v .6)
+    (g .ensures .0 .0, g .ensures .0 .1, omega (arith, v .2, g .kept .1 .1 .1 .0), g .kept .1 .0 ∙ v .3, g .kept .1 .1 .0 ∙ v .4, g .kept .1 .1 .1 .0 ∙ v .5, g .kept .1 .1 .1 .1 .0 ∙ v .6)
 
 same-length : tie.Need-same-length Inv-loop μ-loop
 same-length c = c .before .before .loop .inv .3

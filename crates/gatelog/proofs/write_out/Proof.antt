@@ -1,5 +1,6 @@
 -- `write_out`: the part that is written is as long as it says.
-use mathlib.Core.Path.{sym}
+use mathlib.Core.Path.{refl, sym}
+use mathlib.Core.Bool.{true, false}
 use borrow.Author.Needs.{needs}
 use lib.Seq.{length-take-le}
 use Rattle.gatelog.proofs.write_out.Statement.{statement}
@@ -12,7 +13,7 @@ write-all-requires : tie.Need-write-all-requires
 write-all-requires c κs = search needs
 
 returns : tie.Need-returns
-returns c = search needs
+returns c = (refl, record { answered = refl; start = refl; end = refl; filled = refl; handed = refl; last = refl }, (true, refl))
 
 slice-aggregate-fail : tie.Need-slice-aggregate-fail
 slice-aggregate-fail c = search needs
@@ -21,7 +22,7 @@ fail-requires : tie.Need-fail-requires
 fail-requires c κs = search needs
 
 returns-2 : tie.Need-returns-2
-returns-2 c = search needs
+returns-2 c = (refl, record { answered = refl; start = refl; end = refl; filled = refl; handed = refl; last = refl }, (false, refl))
 
 pub write-out-spec : {M : Type 1} → statement M
 write-out-spec =
