@@ -84,8 +84,8 @@ int32_t taxeedhuul_fit(uint64_t *head, size_t head_length, uint64_t *table, size
                        uint64_t password, const uint8_t *first, size_t first_length);
 
 /* Makes a unit without tags, whatever the memory held before: 0.
- * -301 for a version above 15. Of the three slices, if they are passed one by one: -300 where one has not
- * exactly its length. */
+ * -301 for a version above 15; then, of the three slices, if they are passed one by one: -300 where one has
+ * not exactly its length. */
 static inline int32_t taxeedhuul_unit_start(taxeedhuul_unit *unit, uint8_t version, bool allocation, bool passwords)
 {
     return taxeedhuul_start(unit->head, TAXEEDHUUL_HEAD_WORDS, unit->table, TAXEEDHUUL_TABLE_WORDS, unit->memory,
@@ -132,7 +132,8 @@ int32_t taxeedhuul_write_write(uint8_t *area, size_t area_length, uint8_t versio
                                uint64_t password, const uint8_t *bytes, size_t bytes_length);
 int32_t taxeedhuul_write_bulk_read(uint8_t *area, size_t area_length, uint8_t version, bool locked, const uint64_t *tags,
                                    size_t tags_length, const uint64_t *passwords, size_t passwords_length);
-/* The data of entry i are the octets of bytes from starts[i] on, lengths[i] of them. */
+/* The data of entry i are the octets of bytes from starts[i] on, lengths[i] of them; they lie within bytes, also
+ * where there are none of them. */
 int32_t taxeedhuul_write_bulk_write(uint8_t *area, size_t area_length, uint8_t version, bool locked, const uint64_t *tags,
                                     size_t tags_length, const uint64_t *passwords, size_t passwords_length,
                                     const size_t *starts, size_t starts_length, const size_t *lengths,
