@@ -12,7 +12,12 @@
  * - A unit's memory is only changed by these functions: respond and fit take what start, respond or fit
  *   left. It may be moved and copied as a whole.
  * - Two calls do not use one unit or one area at the same time.
+ * - Words are aligned as their type asks, a unit is not NULL, and a bool is 0 or 1.
  * Everything else may be passed, and is refused where it is wrong.
+ *
+ * A tag and a password are eight octets, here a number with the first octet highest: 00 11 22 33 44 55 66 77
+ * is 0x0011223344556677. Bit 63 of a tag says that it is volatile, bit 62 that the unit manages it; the six
+ * bits below are ignored, and zero in a unit's answers.
  */
 #ifndef TAXEEDHUUL_H
 #define TAXEEDHUUL_H
@@ -54,7 +59,7 @@ enum taxeedhuul_number {
     TAXEEDHUUL_SPF = 11,          /* by the secure port only */
     TAXEEDHUUL_NOT_FITTED = 12,   /* an operation that is unknown, or whose option is not fitted */
     TAXEEDHUUL_MALFORMED = 16,    /* what is no message, or may not be written as one */
-    TAXEEDHUUL_TOO_SHORT = 300,   /* a lent slice */
+    TAXEEDHUUL_TOO_SHORT = 300,   /* a lent slice; or one of a unit that has not its length */
     TAXEEDHUUL_NO_VERSION = 301   /* a unit's version above 15 */
 };
 
@@ -121,6 +126,7 @@ static inline int32_t taxeedhuul_unit_fit(taxeedhuul_unit *unit, uint64_t tag, u
  * Locked: with a password. If not, the password does not count, and a list is handed no passwords. */
 int32_t taxeedhuul_write_resource_information(uint8_t *area, size_t area_length, uint8_t version, const uint64_t *tags,
                                               size_t tags_length);
+/* The initial value travels in the request; a unit drops it, and holds nothing after an allocation. */
 int32_t taxeedhuul_write_allocate(uint8_t *area, size_t area_length, uint8_t version, uint64_t tag, uint8_t mode,
                                   uint32_t size, bool locked, uint64_t password, const uint8_t *initial,
                                   size_t initial_length);
@@ -162,14 +168,16 @@ enum taxeedhuul_answer_word {
 int32_t taxeedhuul_read_answer(const uint8_t *octets, size_t octets_length, uint64_t *fields, size_t fields_length);
 
 /* An entry of a list, at a place of the answer's octets: the place of the next. The first place and the count are
- * read_answer's. -16 if no entry stands there or the octets are over 2,048; then -300 for too few words. */
+ * read_answer's; it is for the caller to take the reader of the answer's type. -16 if the octets there are no such
+ * entry (any eight octets are a tag) or are over 2,048 in all; then -300 for too few words. */
 /* Of bulk write (134, 198): the tag. */
 int32_t taxeedhuul_read_tag(const uint8_t *octets, size_t octets_length, size_t at, uint64_t *fields,
                             size_t fields_length);
 /* Of bulk read (133, 197): the tag, and where in the octets its data starts and how long it is. */
 int32_t taxeedhuul_read_memory_data(const uint8_t *octets, size_t octets_length, size_t at, uint64_t *fields,
                                     size_t fields_length);
-/* Of resource information (128): the tag, its mode code, its data size and its area size. */
+/* Of resource information (128): the tag, its mode code (4 more where SPF is required), its data size (0 if it may not
+ * be read) and its area size. */
 int32_t taxeedhuul_read_resource(const uint8_t *octets, size_t octets_length, size_t at, uint64_t *fields,
                                  size_t fields_length);
 

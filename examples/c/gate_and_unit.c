@@ -1,6 +1,7 @@
 /* A unit and a gate in one process: the vehicle fits a tag, the gate allocates one with a password, writes it,
  * writes and reads both at once, asks for resource information, and is denied without the password. Document 01's
- * rules: the vehicle's tag is read only, so that the bulk write passes it over.
+ * rules: the vehicle's tag is read only, so that the bulk write passes it over. Then another unit, of version 2 and
+ * without passwords, with a tag that is reached by the secure port only.
  * Prints each request and answer in hexadecimal, and what the answer says. */
 #include <inttypes.h>
 #include <stdio.h>
@@ -9,7 +10,7 @@
 
 #include "taxeedhuul.h"
 
-enum { VERSION = 1 };
+enum { VERSION = 1, OTHER = 2 };
 
 static const uint64_t SHIPMENT = 0x0011223344556677u;
 static const uint64_t VEHICLE = 0x4000000000000001u;
@@ -39,18 +40,24 @@ static void print_octets(const char *what, const uint8_t *octets, size_t length)
     printf("\n");
 }
 
-/* Sends the request of that length by the normal port, and reads the answer. */
-static void exchange(const char *what, int32_t request_length)
+/* Sends the request of that length by a port, and reads the answer. */
+static void exchange_by(uint8_t port, const char *what, int32_t request_length)
 {
     size_t length = well(request_length);
     printf("%s\n", what);
     print_octets("  request ", request, length);
-    answer_length = well(taxeedhuul_unit_respond(&unit, TAXEEDHUUL_NORMAL_PORT, request, length, answer, sizeof answer));
+    answer_length = well(taxeedhuul_unit_respond(&unit, port, request, length, answer, sizeof answer));
     print_octets("  answer  ", answer, answer_length);
     if (well(taxeedhuul_read_answer(answer, answer_length, fields, TAXEEDHUUL_ANSWER_WORDS)) == 255)
-        printf("  denied: %" PRIu64 "\n", fields[TAXEEDHUUL_ANSWER_STATUS]);
+        printf("  denied: %" PRIu64, fields[TAXEEDHUUL_ANSWER_STATUS]);
     else
-        printf("  accepted: %" PRIu64 "\n", fields[TAXEEDHUUL_ANSWER_TYPE]);
+        printf("  accepted: %" PRIu64, fields[TAXEEDHUUL_ANSWER_TYPE]);
+    printf(", by version %" PRIu64 "\n", fields[TAXEEDHUUL_ANSWER_VERSION]);
+}
+
+static void exchange(const char *what, int32_t request_length)
+{
+    exchange_by(TAXEEDHUUL_NORMAL_PORT, what, request_length);
 }
 
 int main(void)
@@ -93,8 +100,11 @@ int main(void)
 
     exchange("ask for resource information",
              taxeedhuul_write_resource_information(request, sizeof request, VERSION, tags, 2));
-    printf("  %" PRIu64 " tags and %" PRIu64 " octets are left\n", fields[TAXEEDHUUL_ANSWER_TAGS],
-           fields[TAXEEDHUUL_ANSWER_OCTETS]);
+    printf("  requests of %" PRIu64 " octets, lists of %" PRIu64 "\n", fields[TAXEEDHUUL_ANSWER_LARGEST],
+           fields[TAXEEDHUUL_ANSWER_ENTRIES]);
+    printf("  %" PRIu64 " tags and %" PRIu64 " octets are left, %" PRIu64 " and %" PRIu64 " of volatile memory\n",
+           fields[TAXEEDHUUL_ANSWER_TAGS], fields[TAXEEDHUUL_ANSWER_OCTETS], fields[TAXEEDHUUL_ANSWER_VOLATILE_TAGS],
+           fields[TAXEEDHUUL_ANSWER_VOLATILE_OCTETS]);
     at = (size_t)fields[TAXEEDHUUL_ANSWER_START];
     for (uint64_t i = 0; i < fields[TAXEEDHUUL_ANSWER_LENGTH]; i++) {
         at = well(taxeedhuul_read_resource(answer, answer_length, at, entry, TAXEEDHUUL_RESOURCE_WORDS));
@@ -102,8 +112,28 @@ int main(void)
                entry[3]);
     }
 
+    exchange("read it with the password",
+             taxeedhuul_write_read(request, sizeof request, VERSION, SHIPMENT, true, PASSWORDS[0]));
+    printf("  %016" PRIX64 " holds %.*s\n", fields[TAXEEDHUUL_ANSWER_TAG], (int)fields[TAXEEDHUUL_ANSWER_LENGTH],
+           (const char *)answer + fields[TAXEEDHUUL_ANSWER_START]);
     exchange("read it without the password", taxeedhuul_write_read(request, sizeof request, VERSION, SHIPMENT, false, 0));
     printf("a short answer area: %d\n",
            taxeedhuul_unit_respond(&unit, TAXEEDHUUL_NORMAL_PORT, request, 13, answer, sizeof answer - 1));
+
+    well(taxeedhuul_unit_start(&unit, OTHER, true, false));
+    well(taxeedhuul_unit_fit(&unit, VEHICLE, 8, TAXEEDHUUL_WRITE_ONLY, true, false, 0, NULL, 0));
+    printf("another unit is started, and the vehicle fits %016" PRIX64 " for the secure port\n", VEHICLE);
+    exchange("allocate with a password",
+             taxeedhuul_write_allocate(request, sizeof request, OTHER, SHIPMENT, TAXEEDHUUL_BOTH, 16, true,
+                                       PASSWORDS[0], NULL, 0));
+    exchange("allocate without",
+             taxeedhuul_write_allocate(request, sizeof request, OTHER, SHIPMENT, TAXEEDHUUL_BOTH, 16, false, 0, NULL, 0));
+    exchange("free it", taxeedhuul_write_free(request, sizeof request, OTHER, SHIPMENT, false, 0));
+    exchange("write by the normal port",
+             taxeedhuul_write_write(request, sizeof request, OTHER, VEHICLE, false, 0, (const uint8_t *)"truck 9", 7));
+    exchange_by(TAXEEDHUUL_SECURE_PORT, "write by the secure port",
+                taxeedhuul_write_write(request, sizeof request, OTHER, VEHICLE, false, 0, (const uint8_t *)"truck 9", 7));
+    exchange_by(TAXEEDHUUL_SECURE_PORT, "read what is write only",
+                taxeedhuul_write_read(request, sizeof request, OTHER, VEHICLE, false, 0));
     return 0;
 }
