@@ -1,5 +1,6 @@
 //! Links the proved responder's archive, which `rt staticlib capi` leaves in ../target/staticlib.
-//! Without the archive the program is still built, with the hand-written responder alone, and says what is missing.
+//! The archive is for x86-64. Without it, or on another processor, the program is still built, with the hand-written
+//! responder alone, and says what is missing.
 
 use std::env;
 use std::path::PathBuf;
@@ -11,7 +12,8 @@ fn main() {
     println!("cargo:rerun-if-changed=build.rs");
     println!("cargo:rerun-if-changed={}", archive.display());
     println!("cargo:rustc-check-cfg=cfg(proved)");
-    if archive.is_file() {
+    let processor = env::var("CARGO_CFG_TARGET_ARCH").expect("cargo gives it");
+    if processor == "x86_64" && archive.is_file() {
         println!("cargo:rustc-cfg=proved");
         println!("cargo:rustc-link-search=native={}", directory.display());
         println!("cargo:rustc-link-lib=static=capi");
