@@ -2,9 +2,9 @@
 use Prim.Native.Nat.{ℕ, zero, suc, _+_, _-_, _*_, _/_, _%_, _^_, _<_, _≤_}
 use mathlib.Core.Path.{_≡_, refl, sym, ap, _∙_}
 use mathlib.Core.Bool.{Bool, true, false}
-use mathlib.Core.List.{List, [], _∷_, _++_}
+use mathlib.Core.List.{List, [], _∷_, _++_, reverse, reverse-cons}
 use native.Mathlib.Omega.{arith}
-use native.Mathlib.Nat.{not-suc-le-zero, le-of-suc-le-suc, pow-suc, mul-assoc, mul-comm, add-zero, mul-add-div-right, lt-of-lt-of-le, mod-eq-of-lt}
+use native.Mathlib.Nat.{not-suc-le-zero, le-of-suc-le-suc, pow-suc, mul-assoc, mul-comm, add-zero, mul-add-div-right, lt-of-lt-of-le, mod-eq-of-lt, div-div-eq-div-mul}
 use native.Mathlib.Numerals.{add-one}
 use lib.ListN.{length, getD, set, take, drop, length-append, length-take, length-drop, take-append-drop}
 use lib.Seq.{take-suc, sets, length-take-le, getD-drop, drop-drop, take-at, drop-at}
@@ -106,6 +106,41 @@ octets-number (a ∷ l) o =
     let d : (a * 256 ^ length l + number l) / 256 ^ length l ≡ a = digits-div a (number-lt l r) in
     let m : a % 256 ≡ a = omega (arith, o 0) in
     rw (d, m, octets-above (length l) a (number l), octets-number l r)
+
+-- ---- the octets of a number in the other order
+
+abbrev pub turn : ℕ → ℕ → ℕ
+turn n x = number (reverse (octets n x))
+
+-- one octet more, as a loop turns it
+pub turn-step : (n x : ℕ) → turn (suc n) x ≡ turn n x * 256 + x / 256 ^ n % 256
+unfolding octets
+turn-step n x = rw (reverse-cons, number-snoc)
+
+-- it is below 256 to their count
+turn-lt : (n x : ℕ) → turn n x < 256 ^ n
+unfolding octets number
+turn-lt zero x = omega arith
+turn-lt (suc n) x = rw (turn-step n x, pow256-suc n) (omega (arith, turn-lt n x))
+
+-- seven octets or fewer leave room for one more
+pub turn-small : (n x : ℕ) → n ≤ 7 → turn n x < 256 ^ 7
+turn-small n x h = lt-of-lt-of-le (turn-lt n x) (pow256-mono n 7 h)
+
+-- what is left of a number behind one octet more
+pub rest-step : (n x : ℕ) → x / 256 ^ n / 256 ≡ x / 256 ^ suc n
+rest-step n x = rw (pow256-suc n) (div-div-eq-div-mul x (256 ^ n) 256)
+
+-- the last octet of a turned number is the first that is not stored yet, and the others are those behind it
+pub turn-last : (n x i : ℕ) → i < n → turn (n - i) x % 256 ≡ getD (octets n x) i 0
+turn-last n x i h =
+    let e : n - i ≡ suc (n - 1 - i) = omega arith in
+    rw (octets-at n x i h, e, turn-step (n - 1 - i) x) (omega arith)
+
+pub turn-rest : (n x i : ℕ) → i < n → turn (n - i) x / 256 ≡ turn (n - (i + 1)) x
+turn-rest n x i h =
+    let e : n - i ≡ suc (n - (i + 1)) = omega arith in
+    rw (e, turn-step (n - (i + 1)) x) (omega arith)
 
 -- ---- a run of stores
 

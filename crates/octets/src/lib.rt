@@ -1,6 +1,7 @@
 // Octets: the fields that every message of document 01 is made of, read in place from a slice and written into one that the caller lends.
 // Rules: document 01, 'Messages' and 'Tags'. What each function means stands in specs/; no function asks anything of its caller.
 ghost use mathlib.Core.Path.{_≡_};
+ghost use mathlib.Core.List.{reverse};
 ghost use Prim.Native.Nat.{_+_, _≤_};
 ghost use lib.ListN.{length, take, drop};
 ghost use lib.Seq.{sets};
@@ -170,6 +171,10 @@ pub fn write_number(out: &mut [u8], at: usize, width: Width, x: u64) -> usize
     if out.len() - at < n {
         return at;
     }
+    if n == 8 {
+        store_eight(out, at, x);
+        return at + 8;
+    }
     store_octets(out, at, n, x);
     at + n
 }
@@ -183,6 +188,35 @@ fn store_octets(out: &mut [u8], at: usize, n: usize, x: u64)
         out[at + i] = ((x >> (8 * (n - 1 - i))) & 255) as u8;
         i += 1;
     }
+}
+
+// Eight octets, the last of the turned number first: the compiler makes one store of it.
+fn store_eight(out: &mut [u8], at: usize, x: u64)
+    requires { ⌜ at + 8 ≤ length (now out) ⌝ }
+    ensures { λ _. ⌜ now (out .exit) ≡ sets (now (out .entry)) at (octets 8 x) ⌝ }
+{
+    let mut y = turned(x);
+    let mut i = 0;
+    while i < 8 {
+        out[at + i] = (y % 256) as u8;
+        y = y / 256;
+        i += 1;
+    }
+}
+
+// The number whose octets are those of x in the other order.
+fn turned(x: u64) -> u64
+    ensures { λ r. ⌜ r ≡ number (reverse (octets 8 x)) ⌝ }
+{
+    let mut y: u64 = 0;
+    let mut z = x;
+    let mut i: usize = 0;
+    while i < 8 {
+        y = y * 256 + z % 256;
+        z = z / 256;
+        i += 1;
+    }
+    y
 }
 
 // ---- data
