@@ -11,9 +11,10 @@ use Rattle.octets.specs.Reading.{bad, ok, andThen, forget, Told, refused, fault
 use Rattle.octets.specs.Number.{decodeNumber}
 use Rattle.octets.specs.Layout.{Layout, numeral, data', seq, via, entries, listOf}
 use Rattle.octets.specs.Frame.{receive}
-use Rattle.octets.specs.View.{ListAt, HeadingOf, EnclosedOf}
+use Rattle.octets.specs.View.{DataAt, ListAt, HeadingOf, EnclosedOf}
 use Rattle.octets.specs.declared.Access.{Access}
 use Rattle.octets.specs.declared.Access.the-variants as a
+use Rattle.octets.specs.declared.Data.the-variants as v
 use Rattle.octets.specs.declared.Span.{Span}
 use Rattle.octets.specs.declared.Entries.{Entries}
 use Rattle.octets.specs.declared.Fault.{Fault}
@@ -101,6 +102,11 @@ module _ {w : Form} {s : List ℕ} {at next : ℕ} where
 
   pub allocation-access : {x : Allocation} → AllocationAt s at w (l.Value x next) → formOf (x .access) ≡ w
   allocation-access e = allocation-form w (drop at s) _ _ (sym (e .says))
+
+-- memory data is a tag and data behind it
+pub memory-parts : {w : Form} {s : List ℕ} {at next end tag : ℕ} {x : Access} {p : Span} → KeyAt s at w (k.Value x tag next) → DataAt s next (v.Value p end)
+    → MemoryAt s at w (m.Value x tag p end)
+memory-parts e f = record { says = rw (← e .says, ← f .says); place = f .place }
 
 -- ---- the body of one operation
 

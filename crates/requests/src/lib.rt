@@ -10,6 +10,7 @@ ghost use Rattle.requests.specs.Request as b;
 ghost use Rattle.requests.specs.Request.{request, requestSent, bulkReadSent, bulkWriteSent};
 ghost use Rattle.requests.specs.View.{DecodedAs, DecodedAt, Understood};
 use octets::Access;
+use octets::Data;
 use octets::Enclosed;
 use octets::Entries;
 use octets::Fault;
@@ -21,7 +22,6 @@ use octets::Written;
 use resources::Allocation;
 use resources::AllocationRead;
 use tags::Key;
-use tags::Memory;
 
 // What a request asks. A single operation carries its access; in a bulk list each entry has its own, and the operation says whether the entries have passwords.
 pub enum Operation {
@@ -209,18 +209,17 @@ pub fn write_read(out: &mut [u8], version: u8, access: Access, tag: u64) -> Writ
 
 // ---- write
 
+// Memory data, by its parts: what tags::read_memory returns would go through memory.
 fn read_write(s: &[u8], at: usize, form: Form) -> Decoded
     ensures { λ r. ⌜ DecodedAs c.write form (now (s .entry)) at r ⌝ }
 {
-    match tags::read_memory(s, at, form) {
-        Memory::Bad(fault) => Decoded::Bad(fault),
-        Memory::Value {
-            access,
-            tag,
-            span,
-            next,
-        } => {
-            if next < s.len() {
+    let Key::Value { access, tag, next } = tags::read_key(s, at, form) else {
+        return Decoded::Bad(Fault::Other);
+    };
+    match octets::read_data(s, next) {
+        Data::Bad(fault) => Decoded::Bad(fault),
+        Data::Value { span, next: end } => {
+            if end < s.len() {
                 return Decoded::Bad(Fault::Other);
             }
             Decoded::Good(Operation::Write(access, tag, span))
