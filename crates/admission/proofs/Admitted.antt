@@ -11,16 +11,13 @@ use Rattle.octets.specs.declared.Port.{Port}
 use Rattle.octets.specs.declared.Port.the-variants.{Normal, Secure}
 use Rattle.octets.proofs.Places.{false-true}
 use Rattle.admission.specs.Admission.{unitManaged, tagBars, lockUnfitted, optionBars, portBars, lockBars, passwordBars, useBars, modeBars, badSize, sizeBars, noRoom, roomBars, admission}
+use Rattle.admission.specs.Want.{Known, isTag, Tag, Nothing, Want, Allocate, Fit, Free, Read, Write}
 use Rattle.admission.specs.declared.Attributes.{Attributes}
 use Rattle.admission.specs.declared.Head.{Head}
-use Rattle.admission.specs.declared.Known.{Known}
-use Rattle.admission.specs.declared.Known.the-variants.{Tag, Nothing}
 use Rattle.admission.specs.declared.Mode.{Mode}
 use Rattle.admission.specs.declared.Mode.the-variants.{Both, ReadOnly, WriteOnly}
 use Rattle.admission.specs.declared.Verdict.{Verdict}
 use Rattle.admission.specs.declared.Verdict.the-variants.{Allowed, Denied}
-use Rattle.admission.specs.declared.Want.{Want}
-use Rattle.admission.specs.declared.Want.the-variants.{Allocate, Fit, Free, Read, Write}
 
 -- ---- the chain of tests: what holds where it came to its last one
 
@@ -275,7 +272,7 @@ module _ (h : Head) (p : Port) (a : Access) where
   pub five-else : (k : Known) (w : Want) → roomBars h w ≡ false → admission h k w p a ≡ Denied 5 → ⊥
   five-else k w r e = false-true (sym r ∙ passed-all h k w p a (Denied 5) refl e .room)
 
-  -- ---- document 01's lines, operation by operation. Of a tag that is not registered Free, Read and Write are the 6 above, and of one that is, Allocate and Fit
+  -- ---- document 01's lines, operation by operation. Of a tag that is not registered Free, Read and Write are the 6 above
 
   -- "Free: 6 if not registered or unit-managed; 11 if SPF is required and the port is normal; 10 for password."
   pub free-lines : (t : Attributes) → admission h (Tag t) Free p a
@@ -303,21 +300,25 @@ module _ (h : Head) (p : Port) (a : Access) where
   write-lines t n = refl
 
   -- "Allocate: 6 if the tag is unit-managed or registered; 9 if the size is not 1 to 1,024; 5 if 32 tags exist or the sizes of all areas plus the new one exceed 8,192."
-  pub allocate-lines : (new : Attributes) → admission h Nothing (Allocate new) p a
-      ≡ pick (unitManaged (new .tag)) (Denied 6)
+  pub allocate-lines : (k : Known) (new : Attributes) → admission h k (Allocate new) p a
+      ≡ pick (isTag k) (Denied 6)
+      (pick (unitManaged (new .tag)) (Denied 6)
       (pick (badSize (h .limits .area) (new .size)) (Denied 9)
-      (pick (noRoom h (new .size)) (Denied 5) Allowed))
-  unfolding admission
-  allocate-lines new = refl
-
-  -- Fitting: "6 if the tag is not unit-managed or is registered; 12 if it has a password and passwords are not fitted; 9 for a bad size or data longer than it; 5 as above."
-  pub fit-lines : (new : Attributes) (n : ℕ) → admission h Nothing (Fit new n) p a
-      ≡ pick (not (unitManaged (new .tag))) (Denied 6)
-      (pick (lockUnfitted (h .passwords) (new .lock)) (Denied 12)
-      (pick (pick (badSize (h .limits .area) (new .size)) true (ltb (new .size) n)) (Denied 9)
       (pick (noRoom h (new .size)) (Denied 5) Allowed)))
   unfolding admission
-  fit-lines new n = refl
+  allocate-lines (Tag t) new = refl
+  allocate-lines Nothing new = refl
+
+  -- Fitting: "6 if the tag is not unit-managed or is registered; 12 if it has a password and passwords are not fitted; 9 for a bad size or data longer than it; 5 as above."
+  pub fit-lines : (k : Known) (new : Attributes) (n : ℕ) → admission h k (Fit new n) p a
+      ≡ pick (isTag k) (Denied 6)
+      (pick (not (unitManaged (new .tag))) (Denied 6)
+      (pick (lockUnfitted (h .passwords) (new .lock)) (Denied 12)
+      (pick (pick (badSize (h .limits .area) (new .size)) true (ltb (new .size) n)) (Denied 9)
+      (pick (noRoom h (new .size)) (Denied 5) Allowed))))
+  unfolding admission
+  fit-lines (Tag t) new n = refl
+  fit-lines Nothing new n = refl
 
   -- ---- a password that is not the tag's
 

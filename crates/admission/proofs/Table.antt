@@ -8,15 +8,13 @@ use Rattle.octets.specs.declared.Access.the-variants.{Plain, Password}
 use Rattle.octets.specs.declared.Port.{Port}
 use Rattle.octets.specs.declared.Port.the-variants.{Normal, Secure}
 use Rattle.admission.specs.Admission.{unitManaged, admission}
+use Rattle.admission.specs.Want.{Tag, Nothing, Want, Allocate, Fit, Free, Read, Write}
 use Rattle.admission.specs.declared.Attributes.{Attributes}
 use Rattle.admission.specs.declared.Head.{Head}
-use Rattle.admission.specs.declared.Known.the-variants.{Tag, Nothing}
 use Rattle.admission.specs.declared.Mode.{Mode}
 use Rattle.admission.specs.declared.Mode.the-variants.{Both, ReadOnly, WriteOnly}
 use Rattle.admission.specs.declared.Verdict.{Verdict}
 use Rattle.admission.specs.declared.Verdict.the-variants.{Allowed, Denied}
-use Rattle.admission.specs.declared.Want.{Want}
-use Rattle.admission.specs.declared.Want.the-variants.{Allocate, Fit, Free, Read, Write}
 
 -- a unit of the first kind, with passwords fitted or not, so far filled
 abbrev unit : Bool → ℕ → ℕ → Head

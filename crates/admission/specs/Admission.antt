@@ -8,15 +8,12 @@ use Rattle.octets.specs.declared.Access.{Access}
 use Rattle.octets.specs.declared.Access.the-variants.{Plain, Password}
 use Rattle.octets.specs.declared.Port.{Port}
 use Rattle.octets.specs.declared.Port.the-variants.{Normal, Secure}
+use Rattle.admission.specs.Want.{Known, Tag, Nothing, Want, Allocate, Fit, Free, Read, Write}
 use Rattle.admission.specs.declared.Head.{Head}
-use Rattle.admission.specs.declared.Known.{Known}
-use Rattle.admission.specs.declared.Known.the-variants.{Tag, Nothing}
 use Rattle.admission.specs.declared.Mode.{Mode}
 use Rattle.admission.specs.declared.Mode.the-variants.{Both, ReadOnly, WriteOnly}
 use Rattle.admission.specs.declared.Verdict.{Verdict}
 use Rattle.admission.specs.declared.Verdict.the-variants.{Allowed, Denied}
-use Rattle.admission.specs.declared.Want.{Want}
-use Rattle.admission.specs.declared.Want.the-variants.{Allocate, Fit, Free, Read, Write}
 
 -- "bit 6 clear is gate-allocated, set is unit-managed", of the first of eight octets
 unfoldable pub unitManaged : ℕ → Bool

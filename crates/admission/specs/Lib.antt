@@ -1,3 +1,5 @@
--- `Mode`: the codes of modes. `Admission`: who may do what with a tag, in one definition for every operation.
+-- `Mode`: the codes of modes. `Want`: what the unit knows of a tag, and what an operation wants. `Admission`: who may do what with a tag, in one definition for every
+-- operation.
 pub mod Mode
+pub mod Want
 pub mod Admission

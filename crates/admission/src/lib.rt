@@ -1,10 +1,11 @@
 // Admission: whether a unit lets an operation through, or the number that refuses it.
-// Rules: document 01, 'Denials and their order'. Every operation on a tag asks `admit` and nothing else, but for the one that tells what
-// is registered; of its tests the first decides in one order, 6, 12, 11, 10, 8, 9, 5.
+// Rules: document 01, 'Denials and their order'. Every operation on a tag has its function here, but for the one that tells what is registered. The rule is
+// one for all, `admission`: of its tests the first decides in one order, 6, 12, 11, 10, 8, 9, 5. Each function has those tests that its operation needs.
 ghost use mathlib.Core.Path.{_≡_};
-ghost use Prim.Native.Nat.{_≤_};
+ghost use Prim.Native.Nat.{ℕ, _≤_};
 ghost use Rattle.admission.specs.Mode.{modeCode, codeSpf, lowMode, codeMode};
-ghost use Rattle.admission.specs.Admission.{unitManaged, tagBars, optionBars, portBars, lockBars, passwordBars, modeBars, badSize, sizeBars, noRoom, roomBars, admission};
+ghost use Rattle.admission.specs.Admission.{unitManaged, lockUnfitted, portBars, lockBars, useBars, badSize, noRoom, admission};
+ghost use Rattle.admission.specs.Want.{Known, isTag, Tag, Allocate, Fit, Free, Read, Write};
 use octets::Access;
 use octets::Port;
 
@@ -41,23 +42,6 @@ pub struct Attributes {
     pub mode: Mode,
     pub spf: bool,
     pub lock: Access,
-}
-
-// What the unit knows of the tag that an operation names.
-pub enum Known {
-    Tag(Attributes),
-    Nothing,
-}
-
-// What an operation wants: a new tag, or something of one that is registered.
-pub enum Want {
-    Allocate(Attributes),
-    // The vehicle's call, with first data of this length.
-    Fit { new: Attributes, held: usize },
-    Free,
-    Read,
-    // Of data of this length.
-    Write(usize),
 }
 
 // Document 01's number is the denial's own.
@@ -106,7 +90,7 @@ pub fn code_mode(code: u64) -> Mode
     low_mode(code)
 }
 
-// ---- the tests, each by its number
+// ---- the tests that operations share
 
 // Bit 6 of the first octet of a tag.
 fn is_unit_managed(tag: u64) -> bool
@@ -115,60 +99,17 @@ fn is_unit_managed(tag: u64) -> bool
     (tag >> 62) % 2 == 1
 }
 
-// 6.
-fn tag_bars(known: Known, want: Want) -> bool
-    ensures { λ r. ⌜ r ≡ tagBars known want ⌝ }
-{
-    match known {
-        Known::Nothing => match want {
-            Want::Allocate(new) => is_unit_managed(new.tag),
-            Want::Fit { new, held: _ } => !is_unit_managed(new.tag),
-            Want::Free => true,
-            Want::Read => true,
-            Want::Write(_) => true,
-        },
-        Known::Tag(t) => match want {
-            Want::Allocate(_) => true,
-            Want::Fit { new: _, held: _ } => true,
-            Want::Free => is_unit_managed(t.tag),
-            Want::Read => false,
-            Want::Write(_) => false,
-        },
-    }
-}
-
-// 12.
-fn option_bars(passwords: bool, want: Want) -> bool
-    ensures { λ r. ⌜ r ≡ optionBars passwords want ⌝ }
-{
-    match want {
-        Want::Allocate(_) => false,
-        Want::Fit { new, held: _ } => {
-            let lock = new.lock;
-            match lock {
-                Access::Plain => false,
-                Access::Password(_) => !passwords,
-            }
-        }
-        Want::Free => false,
-        Want::Read => false,
-        Want::Write(_) => false,
-    }
-}
-
 // 11.
-fn port_bars(known: Known, port: Port) -> bool
-    ensures { λ r. ⌜ r ≡ portBars known port ⌝ }
+fn port_bars(tag: Attributes, port: Port) -> bool
+    ensures { λ r. ⌜ r ≡ portBars (Tag tag) port ⌝ }
 {
-    match known {
-        Known::Nothing => false,
-        Known::Tag(t) => match port {
-            Port::Normal => t.spf,
-            Port::Secure => false,
-        },
+    match port {
+        Port::Normal => tag.spf,
+        Port::Secure => false,
     }
 }
 
+// 10.
 fn lock_bars(lock: Access, access: Access) -> bool
     ensures { λ r. ⌜ r ≡ lockBars lock access ⌝ }
 {
@@ -184,48 +125,39 @@ fn lock_bars(lock: Access, access: Access) -> bool
     }
 }
 
-// 10.
-fn password_bars(known: Known, access: Access) -> bool
-    ensures { λ r. ⌜ r ≡ passwordBars known access ⌝ }
+// 8, of a read.
+fn bars_read(mode: Mode) -> bool
+    ensures { λ r. ⌜ r ≡ useBars mode Read ⌝ }
 {
-    match known {
-        Known::Nothing => false,
-        Known::Tag(t) => {
-            let lock = t.lock;
-            lock_bars(lock, access)
-        }
+    match mode {
+        Mode::Both => false,
+        Mode::ReadOnly => false,
+        Mode::WriteOnly => true,
     }
 }
 
-// 8.
-fn mode_bars(known: Known, want: Want) -> bool
-    ensures { λ r. ⌜ r ≡ modeBars known want ⌝ }
+// 8, of a write of any length.
+fn bars_write(mode: Mode) -> bool
+    ensures { λ r. ⌜ ((n : ℕ) → r ≡ useBars mode (Write n)) ⌝ }
 {
-    match known {
-        Known::Nothing => false,
-        Known::Tag(t) => {
-            let mode = t.mode;
-            match mode {
-                Mode::Both => false,
-                Mode::ReadOnly => match want {
-                    Want::Allocate(_) => false,
-                    Want::Fit { new: _, held: _ } => false,
-                    Want::Free => false,
-                    Want::Read => false,
-                    Want::Write(_) => true,
-                },
-                Mode::WriteOnly => match want {
-                    Want::Allocate(_) => false,
-                    Want::Fit { new: _, held: _ } => false,
-                    Want::Free => false,
-                    Want::Read => true,
-                    Want::Write(_) => false,
-                },
-            }
-        }
+    match mode {
+        Mode::Both => false,
+        Mode::ReadOnly => true,
+        Mode::WriteOnly => false,
     }
 }
 
+// 12.
+fn lock_unfitted(passwords: bool, lock: Access) -> bool
+    ensures { λ r. ⌜ r ≡ lockUnfitted passwords lock ⌝ }
+{
+    match lock {
+        Access::Plain => false,
+        Access::Password(_) => !passwords,
+    }
+}
+
+// 9.
 fn bad_size(area: usize, size: usize) -> bool
     ensures { λ r. ⌜ r ≡ badSize area size ⌝ }
 {
@@ -235,28 +167,7 @@ fn bad_size(area: usize, size: usize) -> bool
     area < size
 }
 
-// 9.
-fn size_bars(area: usize, known: Known, want: Want) -> bool
-    ensures { λ r. ⌜ r ≡ sizeBars area known want ⌝ }
-{
-    match want {
-        Want::Allocate(new) => bad_size(area, new.size),
-        Want::Fit { new, held } => {
-            if bad_size(area, new.size) {
-                return true;
-            }
-            new.size < held
-        }
-        Want::Free => false,
-        Want::Read => false,
-        Want::Write(n) => match known {
-            Known::Nothing => false,
-            Known::Tag(t) => t.size < n,
-        },
-    }
-}
-
-// Compared before they are added: no size is too great.
+// 5. Compared before they are added: no size is too great.
 fn no_room(head: Head, size: usize) -> bool
     ensures { λ r. ⌜ r ≡ noRoom head size ⌝ }
 {
@@ -269,49 +180,106 @@ fn no_room(head: Head, size: usize) -> bool
     head.limits.memory - head.used < size
 }
 
-// 5.
-fn room_bars(head: Head, want: Want) -> bool
-    ensures { λ r. ⌜ r ≡ roomBars head want ⌝ }
-{
-    match want {
-        Want::Allocate(new) => no_room(head, new.size),
-        Want::Fit { new, held: _ } => no_room(head, new.size),
-        Want::Free => false,
-        Want::Read => false,
-        Want::Write(_) => false,
-    }
-}
+// ---- the operations on a registered tag, each test in its turn
 
-// Whether an operation may do what it wants with the tag that it names, by what is known of the tag.
-pub fn admit(head: Head, known: Known, want: Want, port: Port, access: Access) -> Verdict
-    ensures { λ r. ⌜ r ≡ admission head known want port access ⌝ }
+// 11, 10, 8.
+pub fn admit_read(tag: Attributes, port: Port, access: Access) -> Verdict
+    ensures { λ r. ⌜ ((h : Head) → r ≡ admission h (Tag tag) Read port access) ⌝ }
 {
-    let six = tag_bars(known, want);
-    let twelve = option_bars(head.passwords, want);
-    let eleven = port_bars(known, port);
-    let ten = password_bars(known, access);
-    let eight = mode_bars(known, want);
-    let nine = size_bars(head.limits.area, known, want);
-    let five = room_bars(head, want);
-    if six {
-        return Verdict::Denied(6);
-    }
-    if twelve {
-        return Verdict::Denied(12);
-    }
-    if eleven {
+    let lock = tag.lock;
+    let mode = tag.mode;
+    if port_bars(tag, port) {
         return Verdict::Denied(11);
     }
-    if ten {
+    if lock_bars(lock, access) {
         return Verdict::Denied(10);
     }
-    if eight {
+    if bars_read(mode) {
         return Verdict::Denied(8);
     }
-    if nine {
+    Verdict::Allowed
+}
+
+// 11, 10, 8, 9: of data of n octets.
+pub fn admit_write(tag: Attributes, n: usize, port: Port, access: Access) -> Verdict
+    ensures { λ r. ⌜ ((h : Head) → r ≡ admission h (Tag tag) (Write n) port access) ⌝ }
+{
+    let lock = tag.lock;
+    let mode = tag.mode;
+    if port_bars(tag, port) {
+        return Verdict::Denied(11);
+    }
+    if lock_bars(lock, access) {
+        return Verdict::Denied(10);
+    }
+    if bars_write(mode) {
+        return Verdict::Denied(8);
+    }
+    if tag.size < n {
         return Verdict::Denied(9);
     }
-    if five {
+    Verdict::Allowed
+}
+
+// 6, 11, 10.
+pub fn admit_free(tag: Attributes, port: Port, access: Access) -> Verdict
+    ensures { λ r. ⌜ ((h : Head) → r ≡ admission h (Tag tag) Free port access) ⌝ }
+{
+    let lock = tag.lock;
+    if is_unit_managed(tag.tag) {
+        return Verdict::Denied(6);
+    }
+    if port_bars(tag, port) {
+        return Verdict::Denied(11);
+    }
+    if lock_bars(lock, access) {
+        return Verdict::Denied(10);
+    }
+    Verdict::Allowed
+}
+
+// ---- the operations that register a tag, by whether it is registered already
+
+// 6, 9, 5.
+pub fn admit_allocate(head: Head, registered: bool, new: Attributes) -> Verdict
+    ensures { λ r. ⌜ ((k : Known) (p : Port) (a : Access) → isTag k ≡ registered → r ≡ admission head k (Allocate new) p a) ⌝ }
+{
+    if registered {
+        return Verdict::Denied(6);
+    }
+    if is_unit_managed(new.tag) {
+        return Verdict::Denied(6);
+    }
+    if bad_size(head.limits.area, new.size) {
+        return Verdict::Denied(9);
+    }
+    if no_room(head, new.size) {
+        return Verdict::Denied(5);
+    }
+    Verdict::Allowed
+}
+
+// 6, 12, 9, 5: with first data of `held` octets.
+pub fn admit_fit(head: Head, registered: bool, new: Attributes, held: usize) -> Verdict
+    ensures { λ r. ⌜ ((k : Known) (p : Port) (a : Access) → isTag k ≡ registered → r ≡ admission head k (Fit new held) p a) ⌝ }
+{
+    let lock = new.lock;
+    if registered {
+        return Verdict::Denied(6);
+    }
+    if !is_unit_managed(new.tag) {
+        return Verdict::Denied(6);
+    }
+    if lock_unfitted(head.passwords, lock) {
+        return Verdict::Denied(12);
+    }
+    if bad_size(head.limits.area, new.size) {
+        return Verdict::Denied(9);
+    }
+    if new.size < held {
+        return Verdict::Denied(9);
+    }
+    if no_room(head, new.size) {
         return Verdict::Denied(5);
     }
     Verdict::Allowed

@@ -24,10 +24,10 @@ use Rattle.requests.specs.Request.{Body, bulkRead, bulkWrite, requestWritable, 
 use Rattle.answers.specs.View.{givenKind}
 use Rattle.answers.specs.declared.Reply.{Reply}
 use Rattle.answers.specs.declared.Reply.the-variants as y
+use Rattle.admission.specs.Want.{Fit}
 use Rattle.admission.specs.declared.Mode.{Mode}
 use Rattle.admission.specs.declared.Verdict.{Verdict}
 use Rattle.admission.specs.declared.Verdict.the-variants.{Allowed, Denied}
-use Rattle.admission.specs.declared.Want.the-variants.{Fit}
 use Rattle.store.specs.Model.{State, Tag}
 use Rattle.store.specs.Steps.{verdict, acted, asked, more, fitStep}
 use Rattle.responder.specs.Entry.{wordFor, areaFor}

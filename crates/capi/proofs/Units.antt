@@ -15,11 +15,11 @@ use Rattle.octets.specs.declared.Access.{Access}
 use Rattle.octets.specs.declared.Port.{Port}
 use Rattle.octets.specs.declared.Port.the-variants.{Secure}
 use Rattle.octets.proofs.Places.{both}
+use Rattle.admission.specs.Want.{Allocate, Fit, Free, Write}
 use Rattle.admission.specs.declared.Head.{Head}
 use Rattle.admission.specs.declared.Mode.{Mode}
 use Rattle.admission.specs.declared.Verdict.{Verdict}
 use Rattle.admission.specs.declared.Verdict.the-variants.{Allowed, Denied}
-use Rattle.admission.specs.declared.Want.the-variants.{Allocate, Fit, Free, Write}
 use Rattle.rows.specs.Keyed.{change, without}
 use Rattle.store.specs.Answers.{begun, started, made, refused as unmade, Did}
 use Rattle.store.specs.Model.{State, Tag, tagId, newUnit, firstKind, headOf, Shows, Sound}

@@ -16,11 +16,10 @@ use Rattle.octets.specs.declared.Access.the-variants.{Plain, Password}
 use Rattle.octets.specs.declared.Port.{Port}
 use Rattle.resources.specs.declared.Resource.{Resource}
 use Rattle.admission.specs.Admission.{lockBars}
+use Rattle.admission.specs.Want.{Want, Allocate, Free, Read, Write}
 use Rattle.admission.specs.declared.Mode.{Mode}
 use Rattle.admission.specs.declared.Verdict.{Verdict}
 use Rattle.admission.specs.declared.Verdict.the-variants.{Allowed, Denied}
-use Rattle.admission.specs.declared.Want.{Want}
-use Rattle.admission.specs.declared.Want.the-variants.{Allocate, Free, Read, Write}
 use Rattle.admission.proofs.Admitted
 use Rattle.rows.specs.Keyed.{nowhere, here, look, change, without, Apart}
 use Rattle.rows.proofs.Keys

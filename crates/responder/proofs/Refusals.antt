@@ -23,10 +23,10 @@ use Rattle.answers.specs.Answer as b
 use Rattle.answers.specs.Denial.{Denial}
 use Rattle.admission.specs.Admission.{roomBars}
 use Rattle.admission.specs.Mode.{codeMode, codeSpf}
+use Rattle.admission.specs.Want.{Want}
+use Rattle.admission.specs.Want as want
 use Rattle.admission.specs.declared.Verdict.{Verdict}
 use Rattle.admission.specs.declared.Verdict.the-variants.{Allowed, Denied}
-use Rattle.admission.specs.declared.Want.{Want}
-use Rattle.admission.specs.declared.Want.the-variants as want
 use Rattle.admission.proofs.Admitted
 use Rattle.store.specs.Model.{State, headOf}
 use Rattle.store.specs.Steps.{Step, registered, knownOf, verdict, heldBy, contentBy, writeStep, freeStep, allocateStep, readStep}

@@ -14,13 +14,11 @@ use Rattle.octets.specs.declared.Access.{Access}
 use Rattle.octets.specs.declared.Port.{Port}
 use Rattle.octets.proofs.Places.{both, false-true}
 use Rattle.admission.specs.Admission.{tagBars, optionBars, portBars, passwordBars, modeBars, sizeBars, roomBars, admission}
+use Rattle.admission.specs.Want.{Known, Want, Allocate, Free, Read, Write}
 use Rattle.admission.specs.declared.Head.{Head}
-use Rattle.admission.specs.declared.Known.{Known}
 use Rattle.admission.specs.declared.Mode.{Mode}
 use Rattle.admission.specs.declared.Verdict.{Verdict}
 use Rattle.admission.specs.declared.Verdict.the-variants.{Allowed, Denied}
-use Rattle.admission.specs.declared.Want.{Want}
-use Rattle.admission.specs.declared.Want.the-variants.{Allocate, Free, Read, Write}
 use Rattle.rows.specs.Keyed.{Maybe, nowhere, here}
 use Rattle.store.specs.Model.{State, Tag, Proper, Valid, headOf}
 use Rattle.store.specs.Steps.{registered, knownOf, verdict, asked, Content, content, denied, heldBy, contentBy, writeStep, freeStep, allocateStep, readStep}

@@ -106,14 +106,6 @@ module _ {A : Type 0} (z : A) where
   image-set f m i n t h e =
       rw (length-flat-set f m i t h e, flat-set f m i t h) (simp append-assoc)
 
-  -- a store over the whole of what element i stands for
-  pub image-sets : (f : A → List ℕ) (m : List A) (i n at : ℕ) (t : A) → i < length m → at ≡ length (flat f (take i m))
-      → length (f t) ≡ length (f (getD m i z)) → sets (image f m n) at (f t) ≡ image f (set m i t) n
-  image-sets f m i n at t h ea e =
-      ap (λ (x : List ℕ). sets x at (f t)) (image-around f m i n h)
-      ∙ sets-mid (flat f (take i m)) (f (getD m i z)) (flat f (drop (suc i) m) ++ replicate (n - length (flat f m)) 0) (f t) at (sym ea) (sym e)
-      ∙ sym (image-set f m i n t h e)
-
   -- a store of one number
   pub image-store : (f : A → List ℕ) (m : List A) (i n at k j v : ℕ) (t : A) → i < length m → at ≡ length (flat f (take i m)) → j ≡ at + k
       → k < length (f (getD m i z)) → set (f (getD m i z)) k v ≡ f t → set (image f m n) j v ≡ image f (set m i t) n

@@ -16,7 +16,7 @@ use Rattle.admission.specs.Mode.{modeCode, codeSpf, codeMode}
 use Rattle.admission.specs.declared.Mode.{Mode}
 use Rattle.rows.specs.Keyed.{nowhere, look, Apart}
 use Rattle.rows.specs.Image.{flat, image, closed}
-use Rattle.rows.specs.Row.{slotTag, empty, lockWord, passwordWord, words, lockOf, slotIn, slotAt, rowsIn, scan, low, sunk, removed}
+use Rattle.rows.specs.Row.{slotTag, empty, lockWord, passwordWord, words, lockOf, slotIn, slotAt, withHeld, rowsIn, scan, low, sunk, removed}
 use Rattle.rows.specs.declared.Row.{Row}
 use Rattle.rows.specs.declared.Slot.{Slot}
 use Rattle.rows.proofs.Moves.{close-sets}
@@ -121,12 +121,23 @@ pub put-past : (t : List ℕ) (s : Slot) (j : ℕ) → length t < j + 8 → laid
 unfolding laid
 put-past t s j h = let e : length t < j + length (words s) = omega (arith, length-row s) in rw (lt-leb _ _ e)
 
--- a row is stored
-pub slot-store : (ss : List Slot) (s : Slot) (i n : ℕ) → i < length ss → length ss * 8 ≤ n
-    → laid (image words ss n) (i * 8) (words s) ≡ image words (set ss i s) n
-slot-store ss s i n h l =
-    put-there (image words ss n) s (i * 8) (omega (arith, length-table ss n l))
-    ∙ Images.image-sets empty words ss i n (i * 8) s h (row-at ss i (i * 8) (omega arith) refl) (length-row s ∙ sym (length-row (getD ss i empty)))
+-- a held length is stored in a row that the table has
+pub held-there : (t : List ℕ) (i n : ℕ) → i * 8 + 8 ≤ length t → withHeld t i n ≡ set t (i * 8 + 3) n
+unfolding withHeld
+held-there t i n h = rw (le-leb _ _ h)
+
+-- in a row past the table none is
+pub held-past : (t : List ℕ) (i n : ℕ) → length t < i * 8 + 8 → withHeld t i n ≡ t
+unfolding withHeld
+held-past t i n h = rw (lt-leb _ _ h)
+
+-- the row's other words stay
+pub held-store : (ss : List Slot) (i k n : ℕ) → i < length ss → length ss * 8 ≤ n
+    → withHeld (image words ss n) i k ≡ image words (set ss i (record { about = getD ss i empty .about; at = getD ss i empty .at; held = k })) n
+unfolding words
+held-store ss i k n h l =
+    held-there (image words ss n) i k (omega (arith, length-table ss n l))
+    ∙ Images.image-store empty words ss i n (i * 8) 3 (i * 8 + 3) k _ h (row-at ss i (i * 8) (omega arith) refl) refl (omega arith) refl
 
 -- a row is stored after the last
 pub slot-add : (ss : List Slot) (s : Slot) (k n : ℕ) → k ≡ length ss → k * 8 + 8 ≤ n

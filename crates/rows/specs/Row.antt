@@ -67,6 +67,10 @@ slotIn t j = record {
 unfoldable pub slotAt : List ℕ → ℕ → Slot
 slotAt t i = pick (leb (i * 8 + 8) (length t)) (slotIn t (i * 8)) empty
 
+-- the table with another held length in row i; past the table, as it was
+unfoldable pub withHeld : List ℕ → ℕ → ℕ → List ℕ
+withHeld t i n = pick (leb (i * 8 + 8) (length t)) (set t (i * 8 + 3) n) t
+
 -- ---- finding a row
 
 -- how many of `count` rows the table has

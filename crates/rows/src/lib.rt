@@ -1,13 +1,13 @@
 // The unit's table: a row of eight words for each registered tag, in one slice that the unit's owner lends. A row says what is fixed of the tag, where its area
-// starts in the memory, and how many octets are held there. Only get_slot and put_slot know a row's words; find_row looks at tags by themselves, and remove_row at
-// where areas start. What a row is stands in specs/Row; no public function asks anything of its caller.
+// starts in the memory, and how many octets are held there. Only get_slot and put_slot know all of a row's words; put_held, find_row and remove_row each
+// look at one, the held length, the tag, and where the area starts. What a row is stands in specs/Row; no public function asks anything of its caller.
 ghost use mathlib.Core.Path.{_≡_};
 ghost use Prim.Native.Nat.{_+_, _-_, _*_, _≤_};
 ghost use lib.ListN.{length, take, drop};
 ghost use lib.Seq.{sets};
 ghost use Rattle.octets.specs.Number.{bare};
 ghost use Rattle.octets.specs.Area.{laid};
-ghost use Rattle.rows.specs.Row.{empty as emptySlot, lockWord, passwordWord, words, lockOf, slotAt, rowsIn, scan, low, sunk, removed};
+ghost use Rattle.rows.specs.Row.{empty as emptySlot, lockWord, passwordWord, words, lockOf, slotAt, withHeld, rowsIn, scan, low, sunk, removed};
 use admission::Attributes;
 use admission::Mode;
 use octets::Access;
@@ -139,6 +139,16 @@ pub fn put_slot(table: &mut [u64], i: usize, slot: Slot)
     table[j + Slot::LOCK] = l;
     table[j + Slot::PASSWORD] = p;
     table[j + Slot::REST] = 0;
+}
+
+// The held length in row i becomes n, if the table has that row.
+pub fn put_held(table: &mut [u64], i: usize, n: usize)
+    ensures { λ _. ⌜ now (table .exit) ≡ withHeld (now (table .entry)) i n ⌝ }
+{
+    if table.len() / Slot::WORDS <= i {
+        return;
+    }
+    table[i * Slot::WORDS + Slot::HELD] = n as u64;
 }
 
 // ---- the table

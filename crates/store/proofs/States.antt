@@ -10,12 +10,11 @@ use Rattle.octets.specs.Area.{laid}
 use Rattle.octets.specs.declared.Access.{Access}
 use Rattle.octets.specs.declared.Port.{Port}
 use Rattle.admission.specs.Admission.{admission}
+use Rattle.admission.specs.Want.{Known as Knowledge, Want}
 use Rattle.admission.specs.declared.Head.{Head}
-use Rattle.admission.specs.declared.Known.{Known as Knowledge}
-use Rattle.admission.specs.declared.Want.{Want}
 use Rattle.rows.specs.Image.{flat, image, closed}
 use Rattle.rows.specs.Keyed.{nowhere, here, look, change, without}
-use Rattle.rows.specs.Row.{empty, slotTag, words, slotAt, rowsIn, scan, removed}
+use Rattle.rows.specs.Row.{empty, slotTag, words, slotAt, withHeld, rowsIn, scan, removed}
 use Rattle.rows.specs.declared.Row.{Row}
 use Rattle.rows.specs.declared.Slot.{Slot}
 use Rattle.rows.proofs.Places.{remove}
@@ -25,7 +24,7 @@ use Rattle.rows.proofs.Rows.{lowered}
 use Rattle.rows.proofs.Rows
 use Rattle.store.specs.Model.{Tag, State, tagId, total, holding, headOf, area, slotOf, arranged, Proper, Each, Valid, Shows}
 use Rattle.store.specs.Steps.{registered, knownOf, verdict, written}
-use Rattle.store.specs.Raw.{rowOf, knownAt, headWith}
+use Rattle.store.specs.Raw.{rowOf, knownAt, overwritten, headWith}
 use Rattle.store.proofs.Areas
 use Rattle.store.proofs.Located
 use Rattle.store.proofs.Valid.{none}
@@ -182,11 +181,11 @@ module _ (u : State) (h : Head) (table pool : List ℕ) (s : Shows u h table poo
   -- ---- what the operations leave
 
   -- other contents of the tag in a row
-  pub put-shows : (i k n : ℕ) (xs table′ pool′ : List ℕ) (q : Slot) → i < h .count → length xs ≤ slotAt table i .about .size
-      → q ≡ record { about = slotAt table i .about; at = slotAt table i .at; held = length xs } → table′ ≡ laid table (i * 8) (words q)
-      → k ≡ slotAt table i .held - length xs → n ≡ slotAt table i .at + length xs → pool′ ≡ sets (sets pool (slotAt table i .at) xs) n (replicate k 0)
+  pub put-shows : (i : ℕ) (xs table′ pool′ : List ℕ) → i < h .count → length xs ≤ slotAt table i .about .size
+      → table′ ≡ withHeld table i (length xs) → pool′ ≡ overwritten pool (slotAt table i .at) (slotAt table i .held) xs
       → Shows (holding u (change tagId (slotTag (slotAt table i)) (written xs) (u .tags))) h table′ pool′
-  put-shows i k n xs table′ pool′ q l hx eq et ek en ep =
+  unfolding overwritten
+  put-shows i xs table′ pool′ l hx et ep =
       let w = known i l in
       let m : List Tag = u .tags in
       let x : ℕ = slotTag (slotAt table i) in
@@ -197,18 +196,19 @@ module _ (u : State) (h : Head) (table pool : List ℕ) (s : Shows u h table poo
       let ea : slotAt table i .at ≡ total (take (w .j) m) = ap (λ (r : Slot). r .at) (w .is) in
       let cm : set m (w .j) (written xs t) ≡ change tagId x (written xs) m = Keys.set-change tagId none x (written xs) m (w .j) (w .low) (s .valid .apart) ex in
       let es : slotAt table i ≡ getD (arranged m) i empty = slot-is i l in
-      let ca : set (arranged m) i q ≡ arranged (change tagId x (written xs) m) =
-      ap (set (arranged m) i) (eq ∙ ap (Located.refilled (length xs)) es)
-      ∙ Keys.set-change slotTag empty x (Located.refilled (length xs)) (arranged m) i (in-order i l) (Located.apart-arranged m (s .valid .apart)) (ap slotTag (sym es))
+      let n : ℕ = slotAt table i .at + length xs in
+      let k : ℕ = slotAt table i .held - length xs in
+      let ca : set (arranged m) i (Located.refilled (length xs) (getD (arranged m) i empty)) ≡ arranged (change tagId x (written xs) m) =
+      Keys.set-change slotTag empty x (Located.refilled (length xs)) (arranged m) i (in-order i l) (Located.apart-arranged m (s .valid .apart)) (ap slotTag (sym es))
       ∙ sym (Located.arranged-change m x xs) in
       let v = Valid.change-valid u (s .valid) x xs t (w .looked) (omega arith) in
       record {
         head = s .head ∙ head-is u (change tagId x (written xs) m) (length m) (total m) (sym (Valid.length-change x (written xs) m)) (sym (Valid.total-change x (written xs) (λ r. refl) m));
-        rows = et ∙ ap (λ (r : List ℕ). laid r (i * 8) (words q)) (s .rows)
-            ∙ Rows.slot-store (arranged m) q i (u .limits .tags * 8) (in-order i l) rows-fit
+        rows = et ∙ ap (λ (r : List ℕ). withHeld r i (length xs)) (s .rows)
+            ∙ Rows.held-store (arranged m) i (length xs) (u .limits .tags * 8) (in-order i l) rows-fit
             ∙ ap (λ (r : List Slot). image words r (u .limits .tags * 8)) ca;
         octets = ep ∙ ap (λ (r : List ℕ). sets (sets r (slotAt table i .at) xs) n (replicate k 0)) (s .octets)
-            ∙ Areas.memory-refilled (u .limits) m (w .j) (u .limits .memory) (slotAt table i .at) k n xs (w .low) (s .valid .proper) ea (omega arith) (omega arith) en
+            ∙ Areas.memory-refilled (u .limits) m (w .j) (u .limits .memory) (slotAt table i .at) k n xs (w .low) (s .valid .proper) ea (omega arith) (omega arith) refl
             ∙ ap (λ (r : List Tag). image area r (u .limits .memory)) cm;
         valid = v;
       }

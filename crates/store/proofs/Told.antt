@@ -6,12 +6,11 @@ use native.Mathlib.Omega.{arith}
 use Rattle.octets.specs.declared.Access.{Access}
 use Rattle.octets.specs.declared.Port.{Port}
 use Rattle.admission.specs.Admission.{admission}
+use Rattle.admission.specs.Want.{Want, Allocate, Fit, Write}
+use Rattle.admission.specs.Want as k
 use Rattle.admission.specs.declared.Attributes.{Attributes}
-use Rattle.admission.specs.declared.Known.the-variants as k
 use Rattle.admission.specs.declared.Verdict.{Verdict}
 use Rattle.admission.specs.declared.Verdict.the-variants.{Allowed, Denied}
-use Rattle.admission.specs.declared.Want.{Want}
-use Rattle.admission.specs.declared.Want.the-variants.{Allocate, Fit, Write}
 use Rattle.admission.proofs.Admitted
 use Rattle.rows.specs.Keyed.{Maybe, nowhere, here}
 use Rattle.store.specs.Model.{Tag, State, holding, headOf}

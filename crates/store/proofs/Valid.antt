@@ -14,9 +14,9 @@ use Rattle.octets.specs.Reading.{pick}
 use Rattle.octets.specs.declared.Access.{Access}
 use Rattle.octets.specs.declared.Port.{Port}
 use Rattle.octets.specs.declared.Port.the-variants.{Secure}
+use Rattle.admission.specs.Want.{Allocate, Fit, Free, Write}
 use Rattle.admission.specs.declared.Limits.{Limits}
 use Rattle.admission.specs.declared.Mode.{Mode}
-use Rattle.admission.specs.declared.Want.the-variants.{Allocate, Fit, Free, Write}
 use Rattle.admission.proofs.Admitted
 use Rattle.rows.specs.Keyed.{nowhere, here, look, change, unless, without, Apart}
 use Rattle.rows.specs.Row.{empty}

@@ -10,11 +10,11 @@ use Rattle.octets.specs.Reading.{pick}
 use Rattle.octets.specs.View.{within}
 use Rattle.octets.specs.declared.Access.{Access}
 use Rattle.octets.specs.declared.Port.{Port}
+use Rattle.admission.specs.Want.{Read}
 use Rattle.admission.specs.declared.Head.{Head}
 use Rattle.admission.specs.declared.Limits.{Limits}
 use Rattle.admission.specs.declared.Verdict.{Verdict}
 use Rattle.admission.specs.declared.Verdict.the-variants as v
-use Rattle.admission.specs.declared.Want.the-variants.{Read}
 use Rattle.rows.specs.Keyed.{Maybe, nowhere, here, look}
 use Rattle.rows.specs.Row.{slotTag}
 use Rattle.rows.specs.declared.Slot.{Slot}

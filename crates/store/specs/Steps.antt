@@ -10,15 +10,13 @@ use Rattle.octets.specs.declared.Access.{Access}
 use Rattle.octets.specs.declared.Port.{Port}
 use Rattle.octets.specs.declared.Port.the-variants.{Secure}
 use Rattle.admission.specs.Admission.{admission}
+use Rattle.admission.specs.Want.{Known, Want, Allocate, Fit, Free, Read, Write}
+use Rattle.admission.specs.Want as k
 use Rattle.admission.specs.declared.Attributes.{Attributes}
 use Rattle.admission.specs.declared.Head.{Head}
-use Rattle.admission.specs.declared.Known.{Known}
-use Rattle.admission.specs.declared.Known.the-variants as k
 use Rattle.admission.specs.declared.Mode.{Mode}
 use Rattle.admission.specs.declared.Verdict.{Verdict}
 use Rattle.admission.specs.declared.Verdict.the-variants.{Allowed, Denied}
-use Rattle.admission.specs.declared.Want.{Want}
-use Rattle.admission.specs.declared.Want.the-variants.{Allocate, Fit, Free, Read, Write}
 use Rattle.rows.specs.Keyed.{Maybe, nowhere, here, look, change, without}
 use Rattle.store.specs.Model.{Tag, State, tagId, holding, headOf}
 use Rattle.store.specs.declared.Remaining.{Remaining}

@@ -8,20 +8,19 @@ ghost use Prim.Native.Nat.{ℕ, _+_, _-_, _*_, _≤_, _<_};
 ghost use lib.ListN.{length, replicate};
 ghost use lib.Seq.{sets};
 ghost use Rattle.octets.specs.Area.{laid};
+ghost use Rattle.admission.specs.Want.{isTag};
 ghost use Rattle.rows.specs.Image.{closed};
-ghost use Rattle.rows.specs.Keyed.{change, without};
-ghost use Rattle.rows.specs.Row.{words, slotAt, slotTag};
+ghost use Rattle.rows.specs.Keyed.{without};
+ghost use Rattle.rows.specs.Row.{words, slotAt, slotTag, withHeld};
 ghost use Rattle.store.specs.Model.{State, tagId, holding, firstKind, Shows, Sound};
-ghost use Rattle.store.specs.Steps.{written, writeStep, freeStep, allocateStep, fitStep, registered, remainder as remainderOf};
+ghost use Rattle.store.specs.Steps.{writeStep, freeStep, allocateStep, fitStep, registered, remainder as remainderOf};
 ghost use Rattle.store.specs.Answers.{begun, started, Did, found, ReadOf};
-ghost use Rattle.store.specs.Raw.{rowOf, knownAt, placeOf, entered, headWith};
+ghost use Rattle.store.specs.Raw.{rowOf, knownAt, overwritten, headWith};
 use admission::Attributes;
 use admission::Head;
-use admission::Known;
 use admission::Limits;
 use admission::Mode;
 use admission::Verdict;
-use admission::Want;
 use octets::Access;
 use octets::Port;
 use octets::Span;
@@ -90,47 +89,6 @@ impl Unit {
     }
 }
 
-// ---- where an operation enters
-
-struct Entry {
-    row: usize,
-    verdict: Verdict,
-}
-
-fn known_at(table: &[u64], row: Row) -> Known
-    ensures { λ r. ⌜ r ≡ knownAt (now (table .entry)) row ⌝ }
-{
-    match row {
-        Row::At(i) => {
-            let slot = rows::get_slot(table, i);
-            let about = slot.about;
-            Known::Tag(about)
-        }
-        Row::Nothing => Known::Nothing,
-    }
-}
-
-fn place_of(row: Row, count: usize) -> usize
-    ensures { λ r. ⌜ r ≡ placeOf row count ⌝ }
-{
-    match row {
-        Row::At(i) => i,
-        Row::Nothing => count,
-    }
-}
-
-// Every operation on a tag comes by here but find, which tells what is registered: the tag's row, and whether the operation may do what it wants.
-fn enter(head: Head, table: &[u64], tag: u64, want: Want, port: Port, access: Access) -> Entry
-    ensures { λ r. ⌜ r ≡ entered head (now (table .entry)) (rowOf head (now (table .entry)) tag) want port access ⌝ }
-{
-    let row = rows::find_row(table, head.count, tag);
-    let known = known_at(table, row);
-    Entry {
-        row: place_of(row, head.count),
-        verdict: admission::admit(head, known, want, port, access),
-    }
-}
-
 // ---- operations that change nothing
 
 pub enum Found {
@@ -194,16 +152,20 @@ pub enum Held {
 pub fn read(head: Head, table: &[u64], tag: u64, port: Port, access: Access) -> Held
     ensures { λ r. ⌜ ((u : State) (pool : List ℕ) → Shows u head (now (table .entry)) pool → ReadOf u tag port access pool r) ⌝ }
 {
-    let entry = enter(head, table, tag, Want::Read, port, access);
-    let verdict = entry.verdict;
-    match verdict {
-        Verdict::Denied(number) => Held::Denied(number),
-        Verdict::Allowed => {
-            let slot = rows::get_slot(table, entry.row);
-            Held::Data(Span {
-                start: slot.at,
-                len: slot.held,
-            })
+    let row = rows::find_row(table, head.count, tag);
+    match row {
+        Row::Nothing => Held::Denied(6),
+        Row::At(i) => {
+            let slot = rows::get_slot(table, i);
+            let about = slot.about;
+            let verdict = admission::admit_read(about, port, access);
+            match verdict {
+                Verdict::Denied(number) => Held::Denied(number),
+                Verdict::Allowed => Held::Data(Span {
+                    start: slot.at,
+                    len: slot.held,
+                }),
+            }
         }
     }
 }
@@ -222,21 +184,16 @@ fn clear(pool: &mut [u8], from: usize, to: usize)
     }
 }
 
-// The contents of the tag in a row become the data. Behind what was held the area is zero already.
-fn put(head: Head, table: &mut [u64], pool: &mut [u8], row: usize, src: &[u8])
-    requires { ⌜ Sound head (now table) (now pool) ⌝ }
-    requires { ⌜ row < head .count ⌝ }
-    requires { ⌜ length (now src) ≤ slotAt (now table) row .about .size ⌝ }
-    ensures { λ _. ⌜ ((u : State) → Shows u head (now (table .entry)) (now (pool .entry))
-        → Shows (holding u (change tagId (slotTag (slotAt (now (table .entry)) row)) (written (now (src .entry))) (u .tags))) head (now (table .exit)) (now (pool .exit))) ⌝ }
+// The data comes to the start of an area, with zeros up to the end of what was held there, and its length into the row. Behind what was held the area is zero already.
+fn put(table: &mut [u64], pool: &mut [u8], row: usize, at: usize, held: usize, src: &[u8])
+    requires { ⌜ (at + length (now src) ≤ length (now pool)) × (at + held ≤ length (now pool)) ⌝ }
+    ensures { λ _. ⌜ (now (table .exit) ≡ withHeld (now (table .entry)) row (length (now (src .entry))))
+        × (now (pool .exit) ≡ overwritten (now (pool .entry)) at held (now (src .entry))) ⌝ }
 {
-    let slot = rows::get_slot(table, row);
     let n = src.len();
-    octets::copy(pool, slot.at, src);
-    clear(pool, slot.at + n, slot.at + slot.held);
-    let mut new = slot;
-    new.held = n;
-    rows::put_slot(table, row, new);
+    octets::copy(pool, at, src);
+    clear(pool, at + n, at + held);
+    rows::put_held(table, row, n);
 }
 
 // Writes data to a tag.
@@ -253,13 +210,20 @@ pub fn write(
     ensures { λ r. ⌜ ((u : State) → Shows u head (now (table .entry)) (now (pool .entry))
         → Did (writeStep u tag (now (src .entry)) port access) r head (now (table .exit)) (now (pool .exit))) ⌝ }
 {
-    let entry = enter(head, table, tag, Want::Write(src.len()), port, access);
-    let verdict = entry.verdict;
-    match verdict {
-        Verdict::Denied(number) => Verdict::Denied(number),
-        Verdict::Allowed => {
-            put(head, table, pool, entry.row, src);
-            Verdict::Allowed
+    let row = rows::find_row(table, head.count, tag);
+    match row {
+        Row::Nothing => Verdict::Denied(6),
+        Row::At(i) => {
+            let slot = rows::get_slot(table, i);
+            let about = slot.about;
+            let verdict = admission::admit_write(about, src.len(), port, access);
+            match verdict {
+                Verdict::Denied(number) => Verdict::Denied(number),
+                Verdict::Allowed => {
+                    put(table, pool, i, slot.at, slot.held, src);
+                    Verdict::Allowed
+                }
+            }
         }
     }
 }
@@ -287,13 +251,12 @@ fn close(pool: &mut [u8], at: usize, n: usize, end: usize)
 }
 
 // The tag in a row goes, with its area.
-fn remove(head: Head, table: &mut [u64], pool: &mut [u8], row: usize) -> Head
+fn remove(head: Head, table: &mut [u64], pool: &mut [u8], row: usize, slot: Slot) -> Head
     requires { ⌜ Sound head (now table) (now pool) ⌝ }
-    requires { ⌜ row < head .count ⌝ }
+    requires { ⌜ (row < head .count) × (slot ≡ slotAt (now table) row) ⌝ }
     ensures { λ r. ⌜ ((u : State) → Shows u head (now (table .entry)) (now (pool .entry))
-        → Shows (holding u (without tagId (slotTag (slotAt (now (table .entry)) row)) (u .tags))) r (now (table .exit)) (now (pool .exit))) ⌝ }
+        → Shows (holding u (without tagId (slotTag slot) (u .tags))) r (now (table .exit)) (now (pool .exit))) ⌝ }
 {
-    let slot = rows::get_slot(table, row);
     let size = slot.about.size;
     close(pool, slot.at, size, head.used);
     rows::remove_row(table, head.count, row);
@@ -317,21 +280,41 @@ pub fn free(
     ensures { λ r. ⌜ ((u : State) → Shows u head (now (table .entry)) (now (pool .entry))
         → Did (freeStep u tag port access) (r .verdict) (r .head) (now (table .exit)) (now (pool .exit))) ⌝ }
 {
-    let entry = enter(head, table, tag, Want::Free, port, access);
-    let verdict = entry.verdict;
-    match verdict {
-        Verdict::Denied(number) => Outcome {
+    let row = rows::find_row(table, head.count, tag);
+    match row {
+        Row::Nothing => Outcome {
             head,
-            verdict: Verdict::Denied(number),
+            verdict: Verdict::Denied(6),
         },
-        Verdict::Allowed => Outcome {
-            head: remove(head, table, pool, entry.row),
-            verdict: Verdict::Allowed,
-        },
+        Row::At(i) => {
+            let slot = rows::get_slot(table, i);
+            let about = slot.about;
+            let verdict = admission::admit_free(about, port, access);
+            match verdict {
+                Verdict::Denied(number) => Outcome {
+                    head,
+                    verdict: Verdict::Denied(number),
+                },
+                Verdict::Allowed => Outcome {
+                    head: remove(head, table, pool, i, slot),
+                    verdict: Verdict::Allowed,
+                },
+            }
+        }
     }
 }
 
 // ---- new tags
+
+fn is_registered(head: Head, table: &[u64], tag: u64) -> bool
+    ensures { λ r. ⌜ isTag (knownAt (now (table .entry)) (rowOf head (now (table .entry)) tag)) ≡ r ⌝ }
+{
+    let row = rows::find_row(table, head.count, tag);
+    match row {
+        Row::At(_) => true,
+        Row::Nothing => false,
+    }
+}
 
 // A new tag's row, behind the last. Its area is the first octets that are not in use.
 fn register(head: Head, table: &mut [u64], new: Attributes, held: usize) -> Head
@@ -375,8 +358,8 @@ pub fn allocate(
         spf,
         lock: access,
     };
-    let entry = enter(head, table, tag, Want::Allocate(new), port, access);
-    let verdict = entry.verdict;
+    let registered = is_registered(head, table, tag);
+    let verdict = admission::admit_allocate(head, registered, new);
     match verdict {
         Verdict::Denied(number) => Outcome {
             head,
@@ -411,12 +394,8 @@ pub fn fit(
         spf,
         lock,
     };
-    let want = Want::Fit {
-        new,
-        held: src.len(),
-    };
-    let entry = enter(head, table, tag, want, Port::Secure, lock);
-    let verdict = entry.verdict;
+    let registered = is_registered(head, table, tag);
+    let verdict = admission::admit_fit(head, registered, new, src.len());
     match verdict {
         Verdict::Denied(number) => Outcome {
             head,

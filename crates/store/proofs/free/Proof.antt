@@ -1,50 +1,73 @@
+use mathlib.Core.Path.{sym, _∙_}
 use borrow.Author.Needs.{needs}
+use Rattle.admission.proofs.Admitted
 use Rattle.store.proofs.Ways
 use Rattle.store.proofs.States
-use Rattle.admission.proofs.Admitted
 use Rattle.store.proofs.free.Statement.{statement}
 use Rattle.store.proofs.free.Tie as tie
 
-enter-requires : tie.Need-enter-requires
-enter-requires c κs = search needs
-
-enum-known-verdict : tie.Need-enum-known-verdict
-enum-known-verdict c = search needs
+find-row-requires : tie.Need-find-row-requires
+find-row-requires c κs = search needs
 
 enum-told : tie.Need-enum-told
 enum-told c = search needs
 
+enum-known-row : tie.Need-enum-known-row
+enum-known-row c = search needs
+
+get-slot-requires : tie.Need-get-slot-requires
+get-slot-requires c κs = search needs
+
+admit-free-requires : tie.Need-admit-free-requires
+admit-free-requires c κs = search needs
+
+enum-known-verdict : tie.Need-enum-known-verdict
+enum-known-verdict c = search needs
+
+enum-told-2 : tie.Need-enum-told-2
+enum-told-2 c = search needs
+
 remove-requires : tie.Need-remove-requires
-remove-requires c κs = let w = c .before .before .before .before .enter in
-    let p = c .before .before .before .before .before .before .before .before .pre in
-    let r = Ways.row-is _ _ _ _ _ _ (w .result) (w .ensures) (Admitted.stranger-free _ _ _) (c .before .before .enum-told .given .1) in
-    (p, States.row-found (p .unit) _ _ _ (p .shown) _ _ r .0)
+remove-requires c κs = let p = c .before .before .before .before .before .before .before .before .before .before .before .before .before .before .before .pre in
+    (p, (States.row-found (p .unit) _ _ _ (p .shown) _ _ (sym (c .before .before .before .before .before .before .before .before .before .before .before .find-row .ensures) ∙ c .before .before .before .before .before .before .before .before .before .row .given .1) .0, c .before .before .before .before .before .before .get-slot .ensures))
 
 same-length : tie.Need-same-length
 same-length c = search needs
 
 returns : tie.Need-returns
-returns c = λ u s. Ways.free-denied u _ _ _ s _ _ _ (c .before .before .before .enter .result) (c .before .before .before .enter .ensures) _ (c .before .verdict .given .1)
+returns c = λ u s. Ways.free-denied u _ _ _ s _ _ _ 6 (Ways.by-none _ _ _ _ _ _ _ (sym (c .before .before .find-row .ensures) ∙ c .enum-told .given .1) (Admitted.stranger-free _ _ _))
 
 same-length-2 : tie.Need-same-length-2
 same-length-2 c = search needs
 
+returns-2 : tie.Need-returns-2
+returns-2 c = λ u s. Ways.free-denied u _ _ _ s _ _ _ _ (Ways.by-row _ _ _ _ _ _ _ (c .before .before .before .before .before .get-slot .result) _ (sym (c .before .before .before .before .before .before .before .before .before .before .find-row .ensures) ∙ c .before .before .before .before .before .before .before .before .row .given .1) (c .before .before .before .before .before .get-slot .ensures) (sym (c .before .verdict .given .1) ∙ c .before .before .before .admit-free .ensures _))
+
 same-length-3 : tie.Need-same-length-3
 same-length-3 c = search needs
 
-returns-2 : tie.Need-returns-2
-returns-2 c = λ u s. Ways.free-done u _ _ _ s _ _ _ (c .before .before .before .before .before .before .before .before .before .enter .result) (c .before .before .before .before .before .before .before .before .before .enter .ensures) _ _ _ (c .before .before .before .before .before .before .before .enum-told .given .1) (c .before .before .before .before .remove .ensures u s)
+same-length-4 : tie.Need-same-length-4
+same-length-4 c = search needs
+
+returns-3 : tie.Need-returns-3
+returns-3 c = λ u s. Ways.free-done u _ _ _ s _ _ _ _ (sym (c .before .before .before .before .before .before .before .before .before .before .before .before .before .before .before .before .find-row .ensures) ∙ c .before .before .before .before .before .before .before .before .before .before .before .before .before .before .row .given .1) (c .before .before .before .before .before .before .before .before .before .before .before .get-slot .result) (c .before .before .before .before .before .before .before .before .before .before .before .get-slot .ensures) _ _ _ (sym (c .before .before .before .before .before .before .before .enum-told2 .given .1) ∙ c .before .before .before .before .before .before .before .before .before .admit-free .ensures _) (c .before .before .before .before .remove .ensures u s)
 
 pub free-spec : {M : Type 1} → statement M
 free-spec =
     tie.close
     (tie.spec
-    enter-requires
-    enum-known-verdict
+    find-row-requires
     enum-told
+    enum-known-row
+    get-slot-requires
+    admit-free-requires
+    enum-known-verdict
+    enum-told-2
     remove-requires
     same-length
     returns
     same-length-2
+    returns-2
     same-length-3
-    returns-2)
+    same-length-4
+    returns-3)
