@@ -1,15 +1,18 @@
-//! Links the proved responder's archive, which `rt staticlib capi` leaves in ../target/staticlib.
-//! The archive is for x86-64. Without it, or on another processor, the program is still built, with the hand-written
-//! responder alone, and says what is missing.
+//! Links the archive of the proved responder and message library, which `rt staticlib capi` leaves in
+//! ../target/staticlib. It is for x86-64. Without it, or on another processor, the program is still built, with the
+//! hand-written ones alone, and says what is missing.
 
 use std::env;
-use std::path::PathBuf;
+use std::path::{Path, PathBuf};
 
 fn main() {
-    let package = env::var("CARGO_MANIFEST_DIR").expect("cargo gives it");
-    let directory = PathBuf::from(package).join("../target/staticlib");
-    let archive = directory.join("libcapi.a");
+    let package = PathBuf::from(env::var("CARGO_MANIFEST_DIR").expect("cargo gives it"));
     println!("cargo:rerun-if-changed=build.rs");
+    link_proved(&package.join("../target/staticlib"));
+}
+
+fn link_proved(directory: &Path) {
+    let archive = directory.join("libcapi.a");
     println!("cargo:rerun-if-changed={}", archive.display());
     println!("cargo:rustc-check-cfg=cfg(proved)");
     let processor = env::var("CARGO_CFG_TARGET_ARCH").expect("cargo gives it");

@@ -1,46 +1,54 @@
-//! The benchmark: the proved responder and the hand-written one in turn over the same requests, in one process.
-//! It prints the best nanoseconds a request of both and their ratio for each row, then the geometric mean of the
-//! ratios and the worst row. `--rows WORD` takes only rows whose name holds the word; `--against-itself` measures
-//! the hand-written responder against itself, which shows the noise.
+//! The benchmark: the proved responder beside a hand-written one over the same requests, and the proved message
+//! library beside a hand-written one over the same messages, each pair in turn in one process.
+//! `--responder` and `--messages` take one of the two tables, `--rows WORD` only rows whose name holds the word;
+//! `--against-itself` measures the hand-written ones against themselves, which shows the noise.
 
 #![deny(unsafe_code)]
 
+mod gate;
 mod measure;
+mod messages;
 #[cfg(proved)]
 #[allow(unsafe_code)]
 mod proved;
 mod responder;
 mod rows;
+mod table;
+#[cfg(proved)]
+mod words;
 
-use measure::{measure, Times};
-use responder::HandWritten;
-use rows::{rows, title, Row};
+use measure::Times;
 use std::env;
 use std::process::ExitCode;
+use table::Table;
+
+const HAND_WRITTEN: &str = "hand-written";
 
 /// The column of the hand-written responder.
-const HAND_WRITTEN: &str = if cfg!(feature = "scattered") {
+const HAND_WRITTEN_RESPONDER: &str = if cfg!(feature = "scattered") {
     "scattered"
 } else {
-    "hand-written"
+    HAND_WRITTEN
 };
 
-const USAGE: &str = "usage: bench [--rows WORD] [--against-itself]";
+const USAGE: &str = "usage: bench [--responder] [--messages] [--rows WORD] [--against-itself]";
 
+#[derive(Default)]
 struct Options {
     word: String,
+    responder: bool,
+    messages: bool,
     against_itself: bool,
 }
 
 fn options() -> Option<Options> {
-    let mut options = Options {
-        word: String::new(),
-        against_itself: false,
-    };
+    let mut options = Options::default();
     let mut words = env::args().skip(1);
     while let Some(word) = words.next() {
         match word.as_str() {
             "--rows" => options.word = words.next()?,
+            "--responder" => options.responder = true,
+            "--messages" => options.messages = true,
             "--against-itself" => options.against_itself = true,
             _ => return None,
         }
@@ -54,7 +62,7 @@ fn main() -> ExitCode {
         return ExitCode::FAILURE;
     };
     let result = if options.against_itself {
-        run(&options, HAND_WRITTEN, measure::<HandWritten, HandWritten>)
+        run(&options, &AGAINST_ITSELF)
     } else {
         run_proved(&options)
     };
@@ -67,62 +75,63 @@ fn main() -> ExitCode {
     }
 }
 
+/// What stands in the first column, and how it is measured beside the hand-written ones.
+struct First {
+    responder: &'static str,
+    measure_responder: fn(&rows::Row) -> Result<Times, String>,
+    messages: &'static str,
+    measure_messages: fn(&messages::Row) -> Result<Times, String>,
+}
+
+const AGAINST_ITSELF: First = First {
+    responder: HAND_WRITTEN_RESPONDER,
+    measure_responder: responder::measure::<responder::HandWritten, responder::HandWritten>,
+    messages: HAND_WRITTEN,
+    measure_messages: messages::measure::<gate::HandWritten, gate::HandWritten>,
+};
+
 #[cfg(proved)]
 fn run_proved(options: &Options) -> Result<(), String> {
-    run(options, "proved", measure::<proved::Proved, HandWritten>)
+    let first = First {
+        responder: "proved",
+        measure_responder: responder::measure::<proved::Proved, responder::HandWritten>,
+        messages: "proved",
+        measure_messages: messages::measure::<proved::ProvedLibrary, gate::HandWritten>,
+    };
+    run(options, &first)
 }
 
 #[cfg(not(proved))]
 fn run_proved(_: &Options) -> Result<(), String> {
     Err(concat!(
-        "the proved responder is missing: ../target/staticlib/libcapi.a was not there when this was built.\n",
-        "Make it with `rt staticlib capi`, then build again; or take --against-itself."
+        "the proved archive is missing: ../target/staticlib/libcapi.a was not there when this was built,\n",
+        "or this is not an x86-64. Make it with `rt staticlib capi`, then build again; or take --against-itself."
     )
     .to_string())
 }
 
-/// A row's times in one visit.
-type Measure = fn(&Row) -> Result<Times, String>;
-
-const VISITS: usize = 6;
-
-fn run(options: &Options, first: &str, measure: Measure) -> Result<(), String> {
-    let rows: Vec<Row> = rows()
-        .into_iter()
-        .filter(|row| row.name.contains(&options.word))
-        .collect();
-    if rows.is_empty() {
+/// The tables that are asked for, one after the other.
+fn run(options: &Options, first: &First) -> Result<(), String> {
+    let both = options.responder == options.messages;
+    let mut printed = 0;
+    if both || options.responder {
+        let table = Table {
+            sides: vec![first.responder, HAND_WRITTEN_RESPONDER],
+            rows: rows::rows(),
+            measure: first.measure_responder,
+        };
+        printed += table.run(&options.word)?;
+    }
+    if both || options.messages {
+        let table = Table {
+            sides: vec![first.messages, HAND_WRITTEN],
+            rows: messages::rows(),
+            measure: first.measure_messages,
+        };
+        printed += table.run(&options.word)?;
+    }
+    if printed == 0 {
         return Err("no row has this word in its name".to_string());
     }
-    let mut times = vec![Times::NONE; rows.len()];
-    for _ in 0..VISITS {
-        for (row, best) in rows.iter().zip(&mut times) {
-            *best = best.best(measure(row)?);
-        }
-    }
-    println!("{}{first:>15}{HAND_WRITTEN:>15}{:>8}", title(), "ratio");
-    for (row, times) in rows.iter().zip(&times) {
-        let Times { first, second } = times;
-        let ratio = times.ratio();
-        println!(
-            "{}{first:>12.1} ns{second:>12.1} ns{ratio:>8.2}",
-            row.words()
-        );
-    }
-    print_summary(&rows, &times);
     Ok(())
-}
-
-/// The geometric mean of the ratios and the row with the greatest.
-fn print_summary(rows: &[Row], times: &[Times]) {
-    let logarithms: f64 = times.iter().map(|times| times.ratio().ln()).sum();
-    let mean = (logarithms / rows.len() as f64).exp();
-    println!("geometric mean {mean:.2} of {} rows", rows.len());
-    let pairs = rows.iter().zip(times.iter().map(Times::ratio));
-    if let Some((row, ratio)) = pairs.max_by(|one, other| one.1.total_cmp(&other.1)) {
-        let Row {
-            name, tags, octets, ..
-        } = row;
-        println!("worst row {ratio:.2}: {name}, tags {tags}, octets {octets}");
-    }
 }

@@ -1,30 +1,38 @@
-//! The rows of the benchmark: what the unit holds before, the requests that are measured, and their outcome. A row's
+//! The responder's rows: what the unit holds before, the requests that are measured, and their outcome. A row's
 //! requests leave the unit as they found it. Its tags are registered in ascending order, with areas as long as the
 //! row's data and full of it; in a row with 1,024 octets only the last tag has them and the others have 16. A single
 //! command names the last tag, which a search from the start finds latest. A list names the last 16 tags, or all of
 //! them in turn if there are fewer.
 
+use crate::measure::Input;
+use crate::table::{self, Label};
 use bench::codec::{self, Allocation, List, MemoryData, Operation, Password, Reply, Request, Tag};
 
 const NORMAL: u8 = 0;
 const SECURE: u8 = 1;
-const BOTH: u8 = 0;
+pub const BOTH: u8 = 0;
 const READ_ONLY: u8 = 2;
 const SPF: u8 = 4;
 
-const PASSWORD: Password = [1, 2, 3, 4, 5, 6, 7, 8];
+pub const PASSWORD: Password = [1, 2, 3, 4, 5, 6, 7, 8];
 const OTHER_PASSWORD: Password = [1, 2, 3, 4, 5, 6, 7, 9];
 
-const LIST: usize = 16;
+pub const LIST: usize = 16;
 const MEMORY: usize = 8192;
-const SMALL: usize = 16;
-const LARGE: usize = 1024;
+pub const SMALL: usize = 16;
+pub const LARGE: usize = 1024;
 const TAGS: [usize; 3] = [1, 8, 32];
-const OCTETS: [usize; 3] = [1, SMALL, LARGE];
+pub const OCTETS: [usize; 3] = [1, SMALL, LARGE];
 
 pub struct Command {
     pub port: u8,
     pub request: Vec<u8>,
+}
+
+impl Command {
+    pub fn input(&self) -> Input<'_> {
+        (self.port, &self.request)
+    }
 }
 
 /// A denial with its status, an answer with so many entries in its list, or another answer.
@@ -48,24 +56,16 @@ impl Outcome {
 }
 
 pub struct Row {
-    pub name: String,
-    pub tags: usize,
-    pub octets: usize,
+    pub label: Label,
     pub before: Vec<Command>,
     pub requests: Vec<Command>,
     pub outcome: Outcome,
 }
 
-impl Row {
-    /// Name, tags and octets as columns of the table.
-    pub fn words(&self) -> String {
-        format!("{:<46}{:>5}{:>7}", self.name, self.tags, self.octets)
+impl table::Row for Row {
+    fn label(&self) -> &Label {
+        &self.label
     }
-}
-
-/// The same columns of the table's first line.
-pub fn title() -> String {
-    format!("{:<46}{:>5}{:>7}", "row", "tags", "octets")
 }
 
 /// Every row, in the order of the table that is printed.
@@ -155,8 +155,7 @@ impl Table {
             let size = self.size(number);
             commands.push(command(SECURE, self.allocation(number, size)));
             if self.mode & READ_ONLY == 0 {
-                let data = data(size);
-                let memory = memory(tag(number), &data);
+                let memory = memory(tag(number), data(size));
                 commands.push(command(SECURE, Operation::Write(memory, self.password)));
             }
         }
@@ -197,8 +196,7 @@ impl Table {
     }
 
     fn bulk_write(&self, count: usize, password: Option<Password>) -> Command {
-        let data = data(LARGE);
-        let memory = |number| memory(tag(number), &data[..self.size(number)]);
+        let memory = |number| memory(tag(number), data(self.size(number)));
         let list: Vec<MemoryData> = self.listed(count).into_iter().map(memory).collect();
         let Some(password) = password else {
             return command(NORMAL, Operation::BulkWrite(List::of(&list)));
@@ -209,14 +207,13 @@ impl Table {
     }
 
     fn row(&self, name: &str, outcome: Outcome, requests: Vec<Command>) -> Row {
-        let form = match self.password {
-            None => "",
-            Some(_) => " with password",
-        };
+        let name = format!("{name}{}", form(self.password.is_some()));
         Row {
-            name: format!("{name}{form}"),
-            tags: self.tags,
-            octets: self.octets,
+            label: Label {
+                name,
+                tags: self.tags,
+                octets: self.octets,
+            },
             before: self.commands(),
             requests,
             outcome,
@@ -224,8 +221,16 @@ impl Table {
     }
 }
 
+/// How the name of a row ends.
+pub fn form(with_password: bool) -> &'static str {
+    match with_password {
+        false => "",
+        true => " with password",
+    }
+}
+
 /// Ascending in their number, whichever end of the octets counts most, and without order between the ends.
-fn tag(number: usize) -> Tag {
+pub fn tag(number: usize) -> Tag {
     tag_between(2 * number as u8 + 1)
 }
 
@@ -241,11 +246,21 @@ fn tag_between(end: u8) -> Tag {
     tag
 }
 
-fn data(length: usize) -> Vec<u8> {
-    (0..length).map(|place| place as u8 ^ 0xA5).collect()
+static DATA: [u8; LARGE] = {
+    let mut data = [0; LARGE];
+    let mut place = 0;
+    while place < LARGE {
+        data[place] = place as u8 ^ 0xA5;
+        place += 1;
+    }
+    data
+};
+
+pub fn data(length: usize) -> &'static [u8] {
+    &DATA[..length]
 }
 
-fn memory(tag: Tag, data: &[u8]) -> MemoryData<'_> {
+pub fn memory(tag: Tag, data: &[u8]) -> MemoryData<'_> {
     MemoryData { tag, data }
 }
 
@@ -281,8 +296,7 @@ fn single_rows() -> Vec<Row> {
 }
 
 fn write(table: &Table, length: usize, password: Option<Password>) -> Command {
-    let data = data(length);
-    let memory = memory(table.last(), &data);
+    let memory = memory(table.last(), data(length));
     command(NORMAL, Operation::Write(memory, password))
 }
 
