@@ -5,6 +5,9 @@
 
 #![deny(unsafe_code)]
 
+#[cfg(feature = "asn1c")]
+#[allow(unsafe_code)]
+mod asn1c;
 mod gate;
 mod measure;
 mod messages;
@@ -14,7 +17,7 @@ mod proved;
 mod responder;
 mod rows;
 mod table;
-#[cfg(proved)]
+#[cfg(any(proved, feature = "asn1c"))]
 mod words;
 
 use measure::Times;
@@ -123,8 +126,12 @@ fn run(options: &Options, first: &First) -> Result<(), String> {
         printed += table.run(&options.word)?;
     }
     if both || options.messages {
+        let mut sides = vec![first.messages, HAND_WRITTEN];
+        if cfg!(feature = "asn1c") {
+            sides.push("asn1c");
+        }
         let table = Table {
-            sides: vec![first.messages, HAND_WRITTEN],
+            sides,
             rows: messages::rows(),
             measure: first.measure_messages,
         };

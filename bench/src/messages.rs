@@ -50,6 +50,8 @@ fn sides<First: Library, Second: Library>(row: &Row) -> Result<(Sides, &[u8]), S
             let mut sides: Sides = Vec::new();
             add_reader::<First::Reader, Second::Reader>(&mut sides, octets)?;
             add_reader::<Second::Reader, Second::Reader>(&mut sides, octets)?;
+            #[cfg(feature = "asn1c")]
+            add_reader::<crate::asn1c::Asn1c, Second::Reader>(&mut sides, octets)?;
             Ok((sides, octets))
         }
     }

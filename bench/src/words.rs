@@ -1,4 +1,4 @@
-//! Answers and entries told in the words of include/taxeedhuul.h, as the proved library tells them.
+//! Answers and entries told in the words of include/taxeedhuul.h, as the proved library and asn1c's decoder tell them.
 
 use crate::gate::{Value, ANSWER_WORDS};
 
