@@ -266,7 +266,9 @@ fn serve_read(
         Held::Data(span) => {
             let form = tags::form_of(access);
             let bare = octets::bare_tag(tag);
-            let src = octets::part(pool, span.start, span.len);
+            let start = span.start;
+            let end = start + span.len;
+            let src = &pool[start..end];
             told(answers::write_read(answer, head.version, form, bare, src))
         }
     }
