@@ -2,11 +2,11 @@
 use Prim.Native.Nat.{ℕ, zero, suc, _+_, _-_, _*_, _/_, _%_, _^_, _<_, _≤_}
 use mathlib.Core.Path.{_≡_, refl, sym, ap, _∙_}
 use mathlib.Core.Bool.{Bool, true, false}
-use mathlib.Core.List.{List, [], _∷_, _++_, reverse, reverse-cons}
+use mathlib.Core.List.{List, [], _∷_, _++_, reverse, reverse-cons, reverse-reverse}
 use native.Mathlib.Omega.{arith}
 use native.Mathlib.Nat.{not-suc-le-zero, le-of-suc-le-suc, pow-suc, mul-assoc, mul-comm, add-zero, mul-add-div-right, lt-of-lt-of-le, mod-eq-of-lt, div-div-eq-div-mul}
 use native.Mathlib.Numerals.{add-one}
-use lib.ListN.{length, getD, set, take, drop, length-append, length-take, length-drop, take-append-drop}
+use lib.ListN.{length, getD, set, take, drop, length-reverse, length-append, length-take, length-drop, take-append-drop}
 use lib.Seq.{take-suc, sets, length-take-le, getD-drop, drop-drop, take-at, drop-at}
 use lib.Arith.{digits-lt, digits-div, mod-mul}
 use lib.Dec.{lit<, leb}
@@ -130,6 +130,37 @@ turn-small n x h = lt-of-lt-of-le (turn-lt n x) (pow256-mono n 7 h)
 -- what is left of a number behind one octet more
 pub rest-step : (n x : ℕ) → x / 256 ^ n / 256 ≡ x / 256 ^ suc n
 rest-step n x = rw (pow256-suc n) (div-div-eq-div-mul x (256 ^ n) 256)
+
+-- octets in the other order are octets
+octets-snoc : (l : List ℕ) (b : ℕ) → Octets l → b < 256 → Octets (l ++ (b ∷ []))
+octets-snoc [] b o h zero = h
+octets-snoc [] b o h (suc k) = lit< tt
+octets-snoc (a ∷ l) b o h zero = o 0
+octets-snoc (a ∷ l) b o h (suc k) = octets-snoc l b (λ j. o (suc j)) h k
+
+octets-reverse : (l : List ℕ) → Octets l → Octets (reverse l)
+octets-reverse [] o = o
+octets-reverse (a ∷ l) o = rw (reverse-cons a l) (octets-snoc (reverse l) a (octets-reverse l (λ k. o (suc k))) (o 0))
+
+-- eight octets, turned twice
+pub turned-back : (l : List ℕ) → Octets l → length l ≡ 8 → turn 8 (number (reverse l)) ≡ number l
+turned-back l o e =
+    let n : length (reverse l) ≡ 8 = length-reverse l ∙ e in
+    let k : octets 8 (number (reverse l)) ≡ reverse l = rw n at (octets-number (reverse l) (octets-reverse l o)) in
+    rw (k, reverse-reverse l)
+
+-- one octet more before those that were summed the last first
+pub number-before : (s : List ℕ) (at i : ℕ) → at < length s → number (reverse (take (suc i) (drop at s))) ≡ number (reverse (take i (drop (suc at) s))) * 256 + getD s at 0
+number-before [] at i h = absurd (not-suc-le-zero h)
+number-before (a ∷ l) zero i h = rw (reverse-cons, number-snoc)
+number-before (a ∷ l) (suc at) i h = number-before l at i (le-of-suc-le-suc h)
+
+-- seven octets or fewer leave room for one more
+pub before-small : (s : List ℕ) (at i : ℕ) → Octets s → i ≤ 7 → number (reverse (take i (drop at s))) < 256 ^ 7
+before-small s at i o h =
+    let t : List ℕ = take i (drop at s) in
+    let e : length (reverse t) ≤ 7 = rw (length-reverse t, length-take) (omega arith) in
+    lt-of-lt-of-le (number-lt (reverse t) (octets-reverse t (octets-take i (drop at s) (octets-drop at s o)))) (pow256-mono (length (reverse t)) 7 e)
 
 -- the last octet of a turned number is the first that is not stored yet, and the others are those behind it
 pub turn-last : (n x i : ℕ) → i < n → turn (n - i) x % 256 ≡ getD (octets n x) i 0

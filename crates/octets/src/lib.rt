@@ -150,10 +150,35 @@ fn sum_octets(s: &[u8], at: usize, n: usize) -> u64
     requires { ⌜ (n ≤ 8) × (at + n ≤ length (now s)) ⌝ }
     ensures { λ r. ⌜ r ≡ number (take n (drop at (now (s .entry)))) ⌝ }
 {
+    if n == 8 {
+        return sum_eight(s, at);
+    }
     let mut x: u64 = 0;
     let mut i = 0;
     while i < n {
         let b = s[at + i] as u64;
+        x = x * 256 + b;
+        i += 1;
+    }
+    x
+}
+
+// Eight octets, turned after they are summed the last first: the compiler makes one load of it.
+fn sum_eight(s: &[u8], at: usize) -> u64
+    requires { ⌜ at + 8 ≤ length (now s) ⌝ }
+    ensures { λ r. ⌜ r ≡ number (take 8 (drop at (now (s .entry)))) ⌝ }
+{
+    turned(sum_turned(s, at))
+}
+
+fn sum_turned(s: &[u8], at: usize) -> u64
+    requires { ⌜ at + 8 ≤ length (now s) ⌝ }
+    ensures { λ r. ⌜ r ≡ number (reverse (take 8 (drop at (now (s .entry))))) ⌝ }
+{
+    let mut x: u64 = 0;
+    let mut i: usize = 0;
+    while i < 8 {
+        let b = s[at + (7 - i)] as u64;
         x = x * 256 + b;
         i += 1;
     }

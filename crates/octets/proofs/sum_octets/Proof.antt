@@ -15,6 +15,12 @@ Inv-loop s at n x₀ i₀ x i = (i ≤ n) × (x ≡ number (take i (drop at s)))
 abbrev μ-loop : tie.MeasureT-loop
 μ-loop s at n x₀ i₀ x i = n - i
 
+sum-eight-requires : tie.Need-sum-eight-requires Inv-loop μ-loop
+sum-eight-requires c κs = omega arith
+
+returns : tie.Need-returns Inv-loop μ-loop
+returns c = rw (c .before .if1 .taken) (c .sum-eight .ensures)
+
 loop-holds : tie.Need-loop-holds Inv-loop μ-loop
 unfolding number
 loop-holds c = (omega arith, refl)
@@ -27,23 +33,23 @@ shared-slice-read-b c = omega arith
 
 cast-b : tie.Need-cast-b Inv-loop μ-loop
 cast-b c =
-    let a = c .before .before .before .args in
+    let a = c .before .before .before .before .before .args in
     let i = c .before .before .loop .i in
-    let o : Octets (now (a .s)) = λ k. c .shared-slice-known .given k .fits in
+    let o : Octets (now (a .s)) = λ k. c .shared-slice-known2 .given k .fits in
     omega (arith, o (a .at + i))
 
 mul-x : tie.Need-mul-x Inv-loop μ-loop
 mul-x c =
-    let a = c .before .before .before .args in
+    let a = c .before .before .before .before .before .args in
     let i = c .before .before .loop .i in
-    let o : Octets (now (a .s)) = λ k. c .shared-slice-known .given k .fits in
+    let o : Octets (now (a .s)) = λ k. c .shared-slice-known2 .given k .fits in
     omega (arith, number-small (now (a .s)) (a .at) i o (omega arith))
 
 add-x : tie.Need-add-x Inv-loop μ-loop
 add-x c =
-    let a = c .before .before .before .args in
+    let a = c .before .before .before .before .before .args in
     let i = c .before .before .loop .i in
-    let o : Octets (now (a .s)) = λ k. c .shared-slice-known .given k .fits in
+    let o : Octets (now (a .s)) = λ k. c .shared-slice-known2 .given k .fits in
     omega (arith, number-small (now (a .s)) (a .at) i o (omega arith), o (a .at + i))
 
 add-i : tie.Need-add-i Inv-loop μ-loop
@@ -54,13 +60,13 @@ loop-less c = omega arith
 
 loop-again : tie.Need-loop-again Inv-loop μ-loop
 loop-again c =
-    let a = c .before .before .before .args in
+    let a = c .before .before .before .before .before .args in
     let i = c .before .before .loop .i in
     (omega arith, rw (number-step (now (a .s)) (a .at) i (omega arith)) (ap (λ (y : ℕ). y * 256 + getD (now (a .s)) (a .at + i) 0) (c .before .before .loop .inv .1)))
 
-returns : tie.Need-returns Inv-loop μ-loop
-returns c =
-    let a = c .before .before .args in
+returns-2 : tie.Need-returns-2 Inv-loop μ-loop
+returns-2 c =
+    let a = c .before .before .before .before .args in
     let e : c .before .loop .i ≡ a .n = omega arith in
     rw (← e) (c .before .loop .inv .1)
 
@@ -70,6 +76,8 @@ sum-octets-spec =
     (tie.spec
     Inv-loop
     μ-loop
+    sum-eight-requires
+    returns
     loop-holds
     add-b
     shared-slice-read-b
@@ -79,4 +87,4 @@ sum-octets-spec =
     add-i
     loop-less
     loop-again
-    returns)
+    returns-2)
