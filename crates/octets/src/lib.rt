@@ -41,6 +41,27 @@ pub enum Form {
     Password,
 }
 
+// ---- a reader
+
+// Octets that are read in place, and a place in them.
+pub struct Reader<'a> {
+    pub src: &'a [u8],
+    pub at: usize,
+}
+
+pub fn reader_at<'a>(src: &'a [u8], at: usize) -> Reader<'a>
+    ensures { λ r. ⌜ (r .src ≡ src .entry) × (r .at ≡ at) ⌝ }
+{
+    Reader { src, at }
+}
+
+// Where the reader stands.
+pub fn place<'a>(r: Reader<'a>) -> usize
+    ensures { λ n. ⌜ n ≡ r .entry .at ⌝ }
+{
+    r.at
+}
+
 // ---- lengths and counts
 
 pub enum Length {
@@ -50,6 +71,19 @@ pub enum Length {
 
 // The length or count that stands at a place, and where the next field starts.
 pub fn read_length(s: &[u8], at: usize) -> Length
+    ensures { λ r. ⌜ LengthAt (now (s .entry)) at r ⌝ }
+{
+    next_length(reader_at(s, at))
+}
+
+// The same, where the reader stands.
+pub fn next_length<'a>(r: Reader<'a>) -> Length
+    ensures { λ n. ⌜ LengthAt (now (r .entry .src)) (r .entry .at) n ⌝ }
+{
+    length_of(r.src, r.at)
+}
+
+fn length_of(s: &[u8], at: usize) -> Length
     ensures { λ r. ⌜ LengthAt (now (s .entry)) at r ⌝ }
 {
     if s.len() <= at {
