@@ -2,7 +2,7 @@
 // Rules: document 01, 'Messages' and 'Tags'. What each function means stands in specs/; no function asks anything of its caller.
 ghost use mathlib.Core.Path.{_≡_};
 ghost use mathlib.Core.List.{reverse};
-ghost use Prim.Native.Nat.{_+_, _≤_};
+ghost use Prim.Native.Nat.{_+_, _-_, _≤_};
 ghost use lib.ListN.{length, take, drop};
 ghost use lib.Seq.{sets};
 ghost use Rattle.octets.specs.Length.{encodeLength};
@@ -60,6 +60,26 @@ pub fn place<'a>(r: Reader<'a>) -> usize
     ensures { λ n. ⌜ n ≡ r .entry .at ⌝ }
 {
     r.at
+}
+
+// How many octets are left from there on; past the end none.
+pub fn left<'a>(r: Reader<'a>) -> usize
+    ensures { λ n. ⌜ n ≡ length (now (r .entry .src)) - r .entry .at ⌝ }
+{
+    octets_left(r.src, r.at)
+}
+
+fn octets_left(s: &[u8], at: usize) -> usize
+    ensures { λ r. ⌜ r ≡ length (now (s .entry)) - at ⌝ }
+{
+    if s.len() < at { 0 } else { s.len() - at }
+}
+
+// The same of a slice and a place.
+pub fn left_at(s: &[u8], at: usize) -> usize
+    ensures { λ r. ⌜ r ≡ length (now (s .entry)) - at ⌝ }
+{
+    left(reader_at(s, at))
 }
 
 // ---- lengths and counts
@@ -165,6 +185,19 @@ pub enum Number {
 
 // The number of a field at a place, high part first.
 pub fn read_number(s: &[u8], at: usize, width: Width) -> Number
+    ensures { λ r. ⌜ NumberAt (now (s .entry)) at width r ⌝ }
+{
+    next_number(reader_at(s, at), width)
+}
+
+// The same, where the reader stands.
+pub fn next_number<'a>(r: Reader<'a>, width: Width) -> Number
+    ensures { λ n. ⌜ NumberAt (now (r .entry .src)) (r .entry .at) width n ⌝ }
+{
+    number_of(r.src, r.at, width)
+}
+
+fn number_of(s: &[u8], at: usize, width: Width) -> Number
     ensures { λ r. ⌜ NumberAt (now (s .entry)) at width r ⌝ }
 {
     let n = octets_of(width);
@@ -298,7 +331,7 @@ pub fn read_data(s: &[u8], at: usize) -> Data
     match read_length(s, at) {
         Length::Bad(fault) => Data::Bad(fault),
         Length::Value { n, next } => {
-            if s.len() - next < n {
+            if left_at(s, next) < n {
                 return Data::Bad(Fault::Other);
             }
             Data::Value {
@@ -460,7 +493,7 @@ pub fn read_enclosed(s: &[u8]) -> Enclosed
     match read_length(s, 4) {
         Length::Bad(fault) => Enclosed::Bad(fault),
         Length::Value { n, next } => {
-            if s.len() - next != n {
+            if left_at(s, next) != n {
                 return Enclosed::Bad(Fault::Other);
             }
             Enclosed::From(next)

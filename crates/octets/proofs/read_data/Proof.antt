@@ -15,15 +15,15 @@ enum-known-fault c = search needs
 enum-known-n : tie.Need-enum-known-n
 enum-known-n c = search needs
 
-sub-if1 : tie.Need-sub-if1
-sub-if1 c = let e = rw (c .before .n .given .1) at (c .before .before .before .read-length .ensures) in e .place .1
+left-at-requires : tie.Need-left-at-requires
+left-at-requires c κs = search needs
 
 returns : tie.Need-returns
 returns c =
-    let a = c .before .before .before .before .before .before .args in
-    let v = c .before .before .n .given .0 in
-    let e = rw (c .before .before .n .given .1) at (c .before .before .before .before .read-length .ensures) in
-    record { says = rw (← e .says) (sym (raw-short (now (a .s)) (v .1 .0) (v .0) (c .if1 .taken))); place = tt }
+    let a = c .before .before .before .before .before .before .before .args in
+    let v = c .before .before .before .n .given .0 in
+    let e = rw (c .before .before .before .n .given .1) at (c .before .before .before .before .before .read-length .ensures) in
+    record { says = rw (← e .says) (sym (raw-short (now (a .s)) (v .1 .0) (v .0) (omega (arith, c .before .left-at .ensures)))); place = tt }
 
 add-t8 : tie.Need-add-t8
 add-t8 c = search needs
@@ -35,10 +35,10 @@ returns-2 c =
 
 returns-3 : tie.Need-returns-3
 returns-3 c =
-    let a = c .before .before .before .before .before .before .args in
-    let v = c .before .before .n .given .0 in
-    let e = rw (c .before .before .n .given .1) at (c .before .before .before .before .read-length .ensures) in
-    record { says = rw (← e .says) (sym (raw-fits (now (a .s)) (v .1 .0) (v .0) (c .if1 .left))); place = (refl, omega (arith, e .place)) }
+    let a = c .before .before .before .before .before .before .before .args in
+    let v = c .before .before .before .n .given .0 in
+    let e = rw (c .before .before .before .n .given .1) at (c .before .before .before .before .before .read-length .ensures) in
+    record { says = rw (← e .says) (sym (raw-fits (now (a .s)) (v .1 .0) (v .0) (omega (arith, c .before .left-at .ensures)))); place = (refl, omega (arith, e .place)) }
 
 pub read-data-spec : {M : Type 1} → statement M
 read-data-spec =
@@ -47,7 +47,7 @@ read-data-spec =
     read-length-requires
     enum-known-fault
     enum-known-n
-    sub-if1
+    left-at-requires
     returns
     add-t8
     returns-2

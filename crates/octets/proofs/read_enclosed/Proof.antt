@@ -26,15 +26,15 @@ enum-known-fault c = search needs
 enum-known-n : tie.Need-enum-known-n
 enum-known-n c = search needs
 
-sub-if3 : tie.Need-sub-if3
-sub-if3 c = let e = rw (c .before .n .given .1) at (c .before .before .before .read-length .ensures) in e .place .1
+left-at-requires : tie.Need-left-at-requires
+left-at-requires c κs = search needs
 
 returns-3 : tie.Need-returns-3
 returns-3 c =
-    let a = c .before .before .before .before .before .before .before .before .before .args in
-    let v = c .before .before .n .given .0 in
-    let e = rw (c .before .before .n .given .1) at (c .before .before .before .before .read-length .ensures) in
-    record { says = sym (enclosed-not (now (a .s)) (omega arith) (omega arith) (v .0) (v .1 .0) (e .says) (λ q. omega arith)); place = tt }
+    let a = c .before .before .before .before .before .before .before .before .before .before .args in
+    let v = c .before .before .before .n .given .0 in
+    let e = rw (c .before .before .before .n .given .1) at (c .before .before .before .before .before .read-length .ensures) in
+    record { says = sym (enclosed-not (now (a .s)) (omega arith) (omega arith) (v .0) (v .1 .0) (e .says) (λ q. omega (arith, c .before .left-at .ensures))); place = tt }
 
 returns-4 : tie.Need-returns-4
 returns-4 c =
@@ -44,10 +44,10 @@ returns-4 c =
 
 returns-5 : tie.Need-returns-5
 returns-5 c =
-    let a = c .before .before .before .before .before .before .before .before .before .args in
-    let v = c .before .before .n .given .0 in
-    let e = rw (c .before .before .n .given .1) at (c .before .before .before .before .read-length .ensures) in
-    record { says = sym (enclosed-is (now (a .s)) (omega arith) (omega arith) (v .0) (v .1 .0) (e .says) (omega arith)); place = e .place .1 }
+    let a = c .before .before .before .before .before .before .before .before .before .before .args in
+    let v = c .before .before .before .n .given .0 in
+    let e = rw (c .before .before .before .n .given .1) at (c .before .before .before .before .before .read-length .ensures) in
+    record { says = sym (enclosed-is (now (a .s)) (omega arith) (omega arith) (v .0) (v .1 .0) (e .says) (omega (arith, c .before .left-at .ensures))); place = e .place .1 }
 
 pub read-enclosed-spec : {M : Type 1} → statement M
 read-enclosed-spec =
@@ -59,7 +59,7 @@ read-enclosed-spec =
     read-length-requires
     enum-known-fault
     enum-known-n
-    sub-if3
+    left-at-requires
     returns-3
     returns-4
     returns-5)
