@@ -1,4 +1,4 @@
-// Octets: the fields that every message of document 01 is made of, read in place from a slice and written into one that the caller lends.
+// Octets: the fields that every message of document 01 is made of, read in place by a reader and written into a slice that the caller lends.
 // Rules: document 01, 'Messages' and 'Tags'. What each function means stands in specs/; no function asks anything of its caller.
 ghost use mathlib.Core.Path.{_≡_};
 ghost use mathlib.Core.List.{reverse};
@@ -43,7 +43,8 @@ pub enum Form {
 
 // ---- a reader
 
-// Octets that are read in place, and a place in them.
+// Octets that are read in place, and the place where the reader stands. A function of a reader takes it apart and calls one of a slice and a place;
+// read_length, read_number, part and left_at make the reader for their callers.
 pub struct Reader<'a> {
     pub src: &'a [u8],
     pub at: usize,
@@ -75,7 +76,6 @@ fn octets_left(s: &[u8], at: usize) -> usize
     if s.len() < at { 0 } else { s.len() - at }
 }
 
-// The same of a slice and a place.
 pub fn left_at(s: &[u8], at: usize) -> usize
     ensures { λ r. ⌜ r ≡ length (now (s .entry)) - at ⌝ }
 {
@@ -358,6 +358,19 @@ pub enum Listing {
 
 // The octets of a span, as the part of the slice where they stand; of a span that reaches past the slice, those that are there.
 pub fn part(s: &[u8], start: usize, len: usize) -> &[u8]
+    ensures { λ r. ⌜ now r ≡ take len (drop start (now (s .entry))) ⌝ }
+{
+    next_part(reader_at(s, start), len)
+}
+
+// The same, where the reader stands.
+pub fn next_part<'a>(r: Reader<'a>, len: usize) -> &'a [u8]
+    ensures { λ p. ⌜ now p ≡ take len (drop (r .entry .at) (now (r .entry .src))) ⌝ }
+{
+    part_of(r.src, r.at, len)
+}
+
+fn part_of(s: &[u8], start: usize, len: usize) -> &[u8]
     ensures { λ r. ⌜ now r ≡ take len (drop start (now (s .entry))) ⌝ }
 {
     if s.len() <= start {
