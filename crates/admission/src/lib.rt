@@ -90,7 +90,7 @@ pub fn code_mode(code: u64) -> Mode
     low_mode(code)
 }
 
-// ---- the tests that operations share
+// ---- the tests, by their numbers
 
 // Bit 6 of the first octet of a tag.
 fn is_unit_managed(tag: u64) -> bool

@@ -1,15 +1,22 @@
-use mathlib.Core.Path.{sym, _∙_}
+use mathlib.Core.Path.{_≡_, sym, _∙_}
+use mathlib.Core.Bool.{true}
 use borrow.Author.Needs.{needs}
 use borrow.Author.Tests.{lt-ltb, le-ltb}
+use Rattle.admission.specs.Admission.{portBars}
+use Rattle.admission.specs.Want.{Tag}
 use Rattle.admission.proofs.Admitted
 use Rattle.admission.proofs.admit_write.Statement.{statement}
 use Rattle.admission.proofs.admit_write.Tie as tie
+
+-- the first test is the port's
+port-first : (c : tie.Then1) → portBars (Tag (c .before .before .args .tag)) (c .before .before .args .port) ≡ true
+port-first c = cc
 
 port-bars-requires : tie.Need-port-bars-requires
 port-bars-requires c κs = search needs
 
 returns : tie.Need-returns
-returns c = λ h. rw (Admitted.write-lines h _ _ _ _, sym (c .before .port-bars .ensures) ∙ c .if1 .taken)
+returns c = λ h. rw (Admitted.write-lines h _ _ _ _, port-first c)
 
 lock-bars-requires : tie.Need-lock-bars-requires
 lock-bars-requires c κs = search needs
