@@ -209,7 +209,7 @@ pub fn write_read(out: &mut [u8], version: u8, access: Access, tag: u64) -> Writ
 
 // ---- write
 
-// Memory data, by its parts: what tags::read_memory returns would go through memory.
+// Memory data, read by its parts: tags::read_memory is too large to be inlined, and what it returns would be stored and copied on.
 fn read_write(s: &[u8], at: usize, form: Form) -> Decoded
     ensures { λ r. ⌜ DecodedAs c.write form (now (s .entry)) at r ⌝ }
 {

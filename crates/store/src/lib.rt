@@ -337,7 +337,7 @@ fn register(head: Head, table: &mut [u64], new: Attributes, held: usize) -> Head
     }
 }
 
-// Registers a tag for a gate; it holds nothing. With a password, that becomes the tag's. Its area is zero already.
+// Registers a tag for a gate; it holds nothing. With a password, that becomes the tag's. Its area is zero already. No rule looks at the port of an allocation.
 pub fn allocate(
     head: Head,
     table: &mut [u64],
