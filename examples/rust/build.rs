@@ -1,10 +1,12 @@
-// Where the linker finds libcapi.a: in TAXEEDHUUL_ARCHIVE, or where `rt staticlib capi` puts it.
+// Where the linker finds libcapi.a: in TAXEEDHUUL_ARCHIVE, or where `rt staticlib capi` puts it; on another processor than x86-64, where .ci/archive does.
 fn main() {
     let folder = std::env::var("TAXEEDHUUL_ARCHIVE").unwrap_or_else(|_| {
-        format!(
-            "{}/../../target/staticlib",
-            std::env::var("CARGO_MANIFEST_DIR").unwrap()
-        )
+        let package = std::env::var("CARGO_MANIFEST_DIR").unwrap();
+        let processor = std::env::var("CARGO_CFG_TARGET_ARCH").unwrap();
+        match processor.as_str() {
+            "x86_64" => format!("{package}/../../target/staticlib"),
+            _ => format!("{package}/../../target/native"),
+        }
     });
     println!("cargo:rerun-if-env-changed=TAXEEDHUUL_ARCHIVE");
     println!("cargo:rerun-if-changed={folder}/libcapi.a");
