@@ -1,6 +1,6 @@
-//! Links the archive of the proved responder and message library, which `rt staticlib capi` leaves in
-//! ../target/staticlib. It is for x86-64. Without it, or on another processor, the program is still built, with the
-//! hand-written ones alone, and says what is missing.
+//! Links the archive of the proved responder and message library: the one in TAXEEDHUUL_ARCHIVE, or the one that
+//! .ci/archive leaves in ../target, for this processor. Without it the program is still built, with the hand-written
+//! ones alone, and says what is missing.
 //! With the feature `asn1c` it also makes asn1c's decoder of asn1/rc004.asn1, by asn1c, gcc and ar, and links it.
 
 use std::env;
@@ -11,9 +11,21 @@ use std::process::{exit, Command, Stdio};
 fn main() {
     let package = PathBuf::from(env::var("CARGO_MANIFEST_DIR").expect("cargo gives it"));
     println!("cargo:rerun-if-changed=build.rs");
-    link_proved(&package.join("../target/staticlib"));
+    link_proved(&archive_folder(&package));
     if env::var_os("CARGO_FEATURE_ASN1C").is_some() {
         link_decoder(&package);
+    }
+}
+
+fn archive_folder(package: &Path) -> PathBuf {
+    println!("cargo:rerun-if-env-changed=TAXEEDHUUL_ARCHIVE");
+    if let Some(folder) = env::var_os("TAXEEDHUUL_ARCHIVE") {
+        return PathBuf::from(folder);
+    }
+    let processor = env::var("CARGO_CFG_TARGET_ARCH").expect("cargo gives it");
+    match processor.as_str() {
+        "x86_64" => package.join("../target/staticlib"),
+        _ => package.join("../target/native"),
     }
 }
 
@@ -21,8 +33,7 @@ fn link_proved(directory: &Path) {
     let archive = directory.join("libcapi.a");
     println!("cargo:rerun-if-changed={}", archive.display());
     println!("cargo:rustc-check-cfg=cfg(proved)");
-    let processor = env::var("CARGO_CFG_TARGET_ARCH").expect("cargo gives it");
-    if processor == "x86_64" && archive.is_file() {
+    if archive.is_file() {
         println!("cargo:rustc-cfg=proved");
         println!("cargo:rustc-link-search=native={}", directory.display());
         println!("cargo:rustc-link-lib=static=capi");

@@ -107,8 +107,8 @@ fn run_proved(options: &Options) -> Result<(), String> {
 #[cfg(not(proved))]
 fn run_proved(_: &Options) -> Result<(), String> {
     Err(concat!(
-        "the proved archive is missing: ../target/staticlib/libcapi.a was not there when this was built,\n",
-        "or this is not an x86-64. Make it with `rt staticlib capi`, then build again; or take --against-itself."
+        "the proved archive is missing: it was not there when this was built.\n",
+        "Make it with `bash .ci/archive`, then build again; or take --against-itself."
     )
     .to_string())
 }
