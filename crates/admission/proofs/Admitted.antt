@@ -198,10 +198,6 @@ module _ (h : Head) (p : Port) (a : Access) where
   pub allowed-write : (t : Attributes) (n : ℕ) → admission h (Tag t) (Write n) p a ≡ Allowed → n ≤ t .size
   allowed-write t n e = ltb-false _ _ (passed-all h (Tag t) (Write n) p a Allowed refl e .size)
 
-  -- a tag that may be freed is gate-allocated
-  pub allowed-free : (t : Attributes) → admission h (Tag t) Free p a ≡ Allowed → unitManaged (t .tag) ≡ false
-  allowed-free t e = passed-all h (Tag t) Free p a Allowed refl e .tag
-
   -- a tag that may be allocated is gate-allocated, and there is room for its area
   pub allowed-allocate : (k : Known) (new : Attributes) → admission h k (Allocate new) p a ≡ Allowed → Granted h new
   allowed-allocate k new e =
@@ -214,14 +210,6 @@ module _ (h : Head) (p : Port) (a : Access) where
       let c = passed-all h k (Fit new n) p a Allowed refl e in
       let b = neither (badSize (h .limits .area) (new .size)) (ltb (new .size) n) (c .size) in
       record { own = new-own k new n (c .tag) .1; option = c .option; held = ltb-false _ _ (b .1); space = spaced h (new .size) (b .0) (c .room) }
-
-  -- a tag that may be allocated is not registered
-  pub fresh-allocate : (k : Known) (new : Attributes) → admission h k (Allocate new) p a ≡ Allowed → k ≡ Nothing
-  fresh-allocate k new e = new-gate k new (passed-all h k (Allocate new) p a Allowed refl e .tag) .0
-
-  -- nor is one that may be fitted
-  pub fresh-fit : (k : Known) (new : Attributes) (n : ℕ) → admission h k (Fit new n) p a ≡ Allowed → k ≡ Nothing
-  fresh-fit k new n e = new-own k new n (passed-all h k (Fit new n) p a Allowed refl e .tag) .0
 
   -- ---- where a new tag is allowed
 

@@ -1,4 +1,5 @@
--- Verdicts on both sides of every boundary of document 01, 'Denials and their order', and where more than one number applies: one table, proved by computation.
+-- Verdicts on both sides of every boundary of document 01, 'Denials and their order', and where more than one number applies; and the six codes of modes. Two tables,
+-- each proved by computation.
 use Prim.Native.Nat.{ℕ}
 use mathlib.Core.Bool.{Bool, true, false}
 use mathlib.Core.List.{List, [], _∷_, map}
@@ -8,6 +9,7 @@ use Rattle.octets.specs.declared.Access.the-variants.{Plain, Password}
 use Rattle.octets.specs.declared.Port.{Port}
 use Rattle.octets.specs.declared.Port.the-variants.{Normal, Secure}
 use Rattle.admission.specs.Admission.{unitManaged, admission}
+use Rattle.admission.specs.Mode.{modeCode, codeSpf, codeMode}
 use Rattle.admission.specs.Want.{Tag, Nothing, Want, Allocate, Fit, Free, Read, Write}
 use Rattle.admission.specs.declared.Attributes.{Attributes}
 use Rattle.admission.specs.declared.Head.{Head}
@@ -84,6 +86,9 @@ rows =
     ∷ (new (unit true 1 8) (Fit (locked U 8) 8), Allowed)
     ∷ (new (unit false 1 8) (Fit (sized U 8) 8), Allowed)
     ∷ (new (unit false 1 8) (Fit (locked K 8) 8), Denied 6)
+    -- of a command its operation type is asked, not this
+    ∷ (new (unit false 1 8) (Allocate (locked K 8)), Allowed)
+    ∷ (admission (unit false 1 8) (Tag (locked K 8)) Read Normal (Password P), Allowed)
     -- 11: SPF on the normal port; 6 before it
     ∷ (of (area8 K Both true Plain) Free Normal Plain, Denied 11)
     ∷ (of (area8 K Both true Plain) Free Secure Plain, Allowed)
@@ -110,6 +115,9 @@ rows =
     ∷ (of (area8 K Both false (Password 0)) Read Normal (Password 0), Allowed)
     ∷ (of (area8 K Both false Plain) Read Normal (Password 0), Denied 10)
     ∷ (of (area8 K Both false (Password 0xFFFFFFFFFFFFFFFF)) Read Normal (Password 0xFFFFFFFFFFFFFFFE), Denied 10)
+    ∷ (of (area8 K Both false (Password 0xFFFFFFFFFFFFFFFF)) Read Normal (Password 0x7FFFFFFFFFFFFFFF), Denied 10)
+    -- the tag's six bits are ignored, a password's are not
+    ∷ (of (area8 K Both false (Password P)) Read Normal (Password 0x3F02030405060708), Denied 10)
     ∷ (of (area8 U Both false (Password P)) Free Normal Plain, Denied 6)
     ∷ (of (area8 K Both true (Password P)) Read Normal Plain, Denied 11)
     ∷ (of (area8 K Both true (Password P)) Read Secure Plain, Denied 10)
@@ -145,7 +153,7 @@ rows =
     ∷ (new (unit true 1 8) (Allocate (sized U 0)), Denied 6)
     ∷ (new (unit false 1 8) (Fit (locked U 0) 1), Denied 12)
     ∷ (new (unit true 1 8) (Fit (sized K 0) 1), Denied 6)
-    -- 5: 32 tags, and 8,192 octets; 9 before it
+    -- 5: 32 tags, and 8,192 octets; 6, 12 and 9 before it
     ∷ (allocated 31 8182 10, Allowed)
     ∷ (allocated 32 8182 10, Denied 5)
     ∷ (allocated 31 8182 11, Denied 5)
@@ -157,6 +165,9 @@ rows =
     ∷ (fitted 31 8182 11 10, Denied 5)
     ∷ (fitted 32 8192 1 0, Denied 5)
     ∷ (fitted 32 8192 1 2, Denied 9)
+    ∷ (new (unit true 32 8192) (Allocate (sized U 1)), Denied 6)
+    ∷ (new (unit true 32 8192) (Fit (sized K 1) 0), Denied 6)
+    ∷ (new (unit false 32 8192) (Fit (locked U 1) 0), Denied 12)
     -- a full unit still frees, reads and writes
     ∷ (admission (unit true 32 8192) (Tag (sized K 8)) Free Normal Plain, Allowed)
     ∷ (admission (unit true 32 8192) (Tag (sized K 8)) Read Normal Plain, Allowed)
@@ -166,3 +177,22 @@ rows =
 pub admission-table : map (λ (x : Verdict × Verdict). x .0) rows ≡ map (λ (x : Verdict × Verdict). x .1) rows
 unfolding admission unitManaged
 admission-table = refl
+
+-- ---- the codes of modes
+
+-- a mode, whether SPF is required, and the code: the six that the tables have
+abbrev codes : List ((Mode × Bool) × ℕ)
+codes =
+    ((Both, false), 0)
+    ∷ ((WriteOnly, false), 1)
+    ∷ ((ReadOnly, false), 2)
+    ∷ ((Both, true), 4)
+    ∷ ((WriteOnly, true), 5)
+    ∷ ((ReadOnly, true), 6)
+    ∷ []
+
+-- the code of each, and each from its code
+pub codes-hold :
+    (map (λ (x : (Mode × Bool) × ℕ). modeCode (x .0 .0) (x .0 .1)) codes ≡ map (λ (x : (Mode × Bool) × ℕ). x .1) codes)
+    × (map (λ (x : (Mode × Bool) × ℕ). (codeMode (x .1), codeSpf (x .1))) codes ≡ map (λ (x : (Mode × Bool) × ℕ). x .0) codes)
+codes-hold = (refl, refl)

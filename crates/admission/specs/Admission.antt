@@ -38,6 +38,7 @@ abbrev pub lockUnfitted : Bool → Access → Bool
 lockUnfitted passwords Plain = false
 lockUnfitted passwords (Password p) = not passwords
 
+-- of every want: what a command needs is told by its operation type, before it comes here
 abbrev pub optionBars : Bool → Want → Bool
 optionBars passwords (Allocate new) = false
 optionBars passwords (Fit new n) = lockUnfitted passwords (new .lock)
@@ -58,11 +59,12 @@ lockBars Plain (Password b) = true
 lockBars (Password a) Plain = true
 lockBars (Password a) (Password b) = not (eqb a b)
 
+-- the same of what is known of a tag; where it is not registered there is nothing to compare
 abbrev pub passwordBars : Known → Access → Bool
 passwordBars Nothing a = false
 passwordBars (Tag t) a = lockBars (t .lock) a
 
--- 8. Read: "if write only". Write: "if read only"
+-- 8. Read: "if write only". Write: "if read only". A tag of any mode may be freed
 abbrev pub useBars : Mode → Want → Bool
 useBars Both w = false
 useBars ReadOnly (Allocate new) = false
@@ -76,14 +78,16 @@ useBars WriteOnly Free = false
 useBars WriteOnly Read = true
 useBars WriteOnly (Write n) = false
 
+-- the same of what is known of a tag
 abbrev pub modeBars : Known → Want → Bool
 modeBars Nothing w = false
 modeBars (Tag t) w = useBars (t .mode) w
 
--- 9. Allocate: "if the size is not 1 to 1,024". Fitting: "for a bad size or data longer than it". Write: "if the data is longer than the area"
+-- "the size is not 1 to 1,024": below 1, or above the greatest area of the kind
 abbrev pub badSize : ℕ → ℕ → Bool
 badSize area size = pick (ltb size 1) true (ltb area size)
 
+-- 9. Allocate: "if the size is not 1 to 1,024". Fitting: "for a bad size or data longer than it". Write: "if the data is longer than the area"
 abbrev pub sizeBars : ℕ → Known → Want → Bool
 sizeBars area k (Allocate new) = badSize area (new .size)
 sizeBars area k (Fit new n) = pick (badSize area (new .size)) true (ltb (new .size) n)
@@ -96,6 +100,7 @@ sizeBars area (Tag t) (Write n) = ltb (t .size) n
 abbrev pub noRoom : Head → ℕ → Bool
 noRoom h size = pick (leb (h .limits .tags) (h .count)) true (ltb (h .limits .memory) (h .used + size))
 
+-- of every want: "5 is given in no other case"
 abbrev pub roomBars : Head → Want → Bool
 roomBars h (Allocate new) = noRoom h (new .size)
 roomBars h (Fit new n) = noRoom h (new .size)
@@ -103,7 +108,7 @@ roomBars h Free = false
 roomBars h Read = false
 roomBars h (Write n) = false
 
--- what becomes of a want: by what the unit knows of the tag, the port by which the command came, and how it shows its right
+-- "The first line that applies decides." What becomes of a want, by what the unit knows of the tag, the port by which the command came, and how it shows its right
 unfoldable pub admission : Head → Known → Want → Port → Access → Verdict
 admission h k w p a =
     pick (tagBars k w) (Denied 6)

@@ -6,6 +6,7 @@ use Rattle.octets.specs.Reading.{pick}
 use Rattle.admission.specs.declared.Mode.{Mode}
 use Rattle.admission.specs.declared.Mode.the-variants.{Both, ReadOnly, WriteOnly}
 
+-- the mode octet of tables 3.2-7, 3.2-9 and 3.2-25: one more where reading is prohibited, two more where writing is, four more where SPF is required
 abbrev pub modeCode : Mode → Bool → ℕ
 modeCode Both false = 0
 modeCode WriteOnly false = 1
@@ -14,11 +15,14 @@ modeCode Both true = 4
 modeCode WriteOnly true = 5
 modeCode ReadOnly true = 6
 
+-- whether a code of the tables says that SPF is required
 abbrev pub codeSpf : ℕ → Bool
 codeSpf w = leb 4 w
 
+-- the mode of a code without SPF
 abbrev pub lowMode : ℕ → Mode
 lowMode w = pick (eqb w 1) WriteOnly (pick (eqb w 2) ReadOnly Both)
 
+-- the mode of a code of the tables. What is no code of theirs is read as both; it is never kept
 abbrev pub codeMode : ℕ → Mode
 codeMode w = lowMode (pick (leb 4 w) (w - 4) w)
