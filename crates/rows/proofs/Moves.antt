@@ -6,7 +6,7 @@ use Prim.Native.Nat.{ℕ, suc, _+_, _-_, _≤_, _<_}
 use native.Mathlib.Omega.{arith}
 use native.Mathlib.Numerals.{add-one}
 use lib.ListN.{length, take, drop, getD, set, replicate, length-append, length-take, length-drop, length-replicate, getD-replicate, take-append-drop}
-use lib.Seq.{sets, sets-eq, length-sets, take-length, length-take-le, getD-drop, drop-drop}
+use lib.Seq.{sets, sets-eq, take-length, length-take-le, getD-drop, drop-drop}
 use Rattle.octets.proofs.Numbers.{sets-step}
 use Rattle.rows.specs.Image.{closed}
 use Rattle.rows.proofs.Places.{sets-mid, getD-sets, drop-take}
@@ -34,11 +34,6 @@ stopped d s at j n e = rw e
 pub done : (d s : List ℕ) (at j : ℕ) → j ≡ length s → part d at s j ≡ sets d at s
 unfolding part
 done d s at j e = rw (e, take-length s)
-
--- no turn changes the length
-pub length-part : (d s : List ℕ) (at j : ℕ) → length (part d at s j) ≡ length d
-unfolding part
-length-part d s at j = length-sets d at (take j s)
 
 -- ---- zeros
 

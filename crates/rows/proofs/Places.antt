@@ -1,10 +1,10 @@
 -- Laws of lists cut around a place: what a store, a load and a close-up do to a list that is given in parts. Assumes nothing.
 use mathlib.Core.Path.{_≡_, refl, sym, ap, _∙_}
-use mathlib.Core.List.{List, [], _∷_, _++_, append-nil, append-assoc}
+use mathlib.Core.List.{List, [], _∷_, _++_, append-assoc}
 use Prim.Native.Nat.{ℕ, suc, _+_, _≤_, _<_}
 use native.Mathlib.Omega.{arith}
 use native.Mathlib.Nat.{zero-add, suc-add}
-use lib.ListN.{length, take, drop, getD, set, replicate, length-append, length-drop, length-replicate, List·getD-append}
+use lib.ListN.{length, take, drop, getD, set, replicate, length-append, List·getD-append}
 use lib.Seq.{sets, sets-eq, take-at, drop-at, take-add, length-take-le, set-append-left, getD-append-add, getD-set-other}
 use Rattle.octets.proofs.Numbers.{sets-append}
 use Rattle.rows.specs.Image.{closed}
@@ -23,10 +23,6 @@ sets-mid p x q z n e l =
     let k : length (p ++ x) ≡ n + length z = omega (arith, length-append p x) in
     let d : drop (n + length z) (p ++ (x ++ q)) ≡ q = rw (← append-assoc p x q) (drop-at (p ++ x) q (n + length z) k) in
     sets-eq z (p ++ (x ++ q)) n h ∙ rw (take-at p (x ++ q) n e, d, append-assoc)
-
--- over the end of a list
-pub sets-end : (p q z : List ℕ) (n : ℕ) → length p ≡ n → length q ≡ length z → sets (p ++ q) n z ≡ p ++ z
-sets-end p q z n e l = rw (append-nil q, append-nil z) at (sets-mid p q [] z n e l)
 
 -- two stores side by side are one
 pub sets-sets : (d a b : List ℕ) (at n : ℕ) → n ≡ at + length a → sets (sets d at a) n b ≡ sets d at (a ++ b)
@@ -68,19 +64,3 @@ closed-mid p x q r n k end e l ee =
     let t : take end (p ++ (x ++ (q ++ r))) ≡ (p ++ x) ++ q = ap (take end) d ∙ take-at (p ++ (x ++ q)) r end a ∙ sym (append-assoc p x q) in
     let u : drop end (p ++ (x ++ (q ++ r))) ≡ r = ap (drop end) d ∙ drop-at (p ++ (x ++ q)) r end a in
     rw (t, u, take-at p (x ++ (q ++ r)) n e, drop-at (p ++ x) q (n + k) b)
-
--- closing up keeps the length
-pub length-closed : (d : List ℕ) (at n end : ℕ) → at + n ≤ end → end ≤ length d → length (closed d at n end) ≡ length d
-unfolding closed
-length-closed d at n end h k =
-    omega (
-      arith,
-      length-append (take at d) (drop (at + n) (take end d) ++ (replicate n 0 ++ drop end d)),
-      length-append (drop (at + n) (take end d)) (replicate n 0 ++ drop end d),
-      length-append (replicate n 0) (drop end d),
-      length-take-le at d (omega arith),
-      length-drop (at + n) (take end d),
-      length-take-le end d k,
-      length-drop end d,
-      length-replicate {A = ℕ} n 0,
-    )

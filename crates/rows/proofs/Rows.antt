@@ -5,7 +5,7 @@ use mathlib.Core.Bool.{Bool, true, false}
 use Prim.Native.Nat.{ℕ, zero, suc, _+_, _-_, _*_, _≤_, _<_, _/_}
 use native.Mathlib.Omega.{arith}
 use native.Mathlib.Decide.{ℕ-discrete}
-use lib.ListN.{length, take, drop, getD, set, replicate, length-append, length-drop, length-set}
+use lib.ListN.{length, take, drop, getD, set, replicate, length-append, length-drop}
 use lib.Dec.{eqb, ltb}
 use lib.Seq.{sets, length-sets, length-take-le, take-suc, drop-cons, set-at, getD-at, take-all, drop-length}
 use borrow.Author.Tests.{eq-eqb, ne-eqb, eqb-true, eqb-false, le-leb, lt-leb, le-ltb, lt-ltb, ltb-true, ltb-false}
@@ -14,7 +14,7 @@ use Rattle.octets.specs.Area.{laid}
 use Rattle.octets.specs.declared.Access.{Access}
 use Rattle.admission.specs.Mode.{modeCode, codeSpf, codeMode}
 use Rattle.admission.specs.declared.Mode.{Mode}
-use Rattle.rows.specs.Keyed.{nowhere, look, Apart}
+use Rattle.rows.specs.Keyed.{nowhere, look}
 use Rattle.rows.specs.Image.{flat, image, closed}
 use Rattle.rows.specs.Row.{slotTag, empty, lockWord, passwordWord, words, lockOf, slotIn, slotAt, withHeld, rowsIn, scan, low, sunk, removed}
 use Rattle.rows.specs.declared.Row.{Row}
@@ -249,38 +249,11 @@ unfolding lowered
 length-lowered at n [] = refl
 length-lowered at n (s ∷ ss) = ap suc (length-lowered at n ss)
 
+-- one list of slots after another
 lowered-append : (at n : ℕ) (a b : List Slot) → lowered at n (a ++ b) ≡ lowered at n a ++ lowered at n b
 unfolding lowered
 lowered-append at n [] b = refl
 lowered-append at n (s ∷ a) b = ap (λ (r : List Slot). lower at n s ∷ r) (lowered-append at n a b)
-
--- each slot by itself
-pub getD-lowered : (at n : ℕ) (ss : List Slot) (i : ℕ) → i < length ss → getD (lowered at n ss) i empty ≡ lower at n (getD ss i empty)
-unfolding lowered
-getD-lowered at n [] i h = absurd (omega arith)
-getD-lowered at n (s ∷ ss) zero h = refl
-getD-lowered at n (s ∷ ss) (suc i) h = getD-lowered at n ss i (omega arith)
-
--- each keeps its tag: a tag that is in no slot is in none that is lowered
-pub none-lowered : (at n x : ℕ) (ss : List Slot) → look slotTag x ss ≡ nowhere → look slotTag x (lowered at n ss) ≡ nowhere
-unfolding lowered
-none-lowered at n x [] h = h
-none-lowered at n x (s ∷ ss) h =
-    Keys.look-no slotTag x (lower at n s) (lowered at n ss) (Keys.none-head slotTag x s ss h) ∙ none-lowered at n x ss (Keys.none-tail slotTag x s ss h)
-
--- and the other way round
-pub lowered-none : (at n x : ℕ) (ss : List Slot) → look slotTag x (lowered at n ss) ≡ nowhere → look slotTag x ss ≡ nowhere
-unfolding lowered
-lowered-none at n x [] h = h
-lowered-none at n x (s ∷ ss) h =
-    Keys.look-no slotTag x s ss (Keys.none-head slotTag x (lower at n s) (lowered at n ss) h)
-    ∙ lowered-none at n x ss (Keys.none-tail slotTag x (lower at n s) (lowered at n ss) h)
-
--- and no tag is twice in them
-pub apart-lowered : (at n : ℕ) (ss : List Slot) → Apart slotTag ss → Apart slotTag (lowered at n ss)
-unfolding lowered Apart
-apart-lowered at n [] p = p
-apart-lowered at n (s ∷ ss) p = (none-lowered at n (slotTag s) ss (p .0), apart-lowered at n ss (p .1))
 
 -- the words of the first k rows, when their places have come down
 sunk-part : (at n : ℕ) (ss : List Slot) (len k : ℕ) → k ≤ length ss → sunk at n (image words ss len) k ≡ image words (lowered at n (take k ss) ++ drop k ss) len
@@ -311,12 +284,6 @@ pub sunk-is : (at n : ℕ) (ss : List Slot) (len k : ℕ) → k ≡ length ss �
 sunk-is at n ss len k h =
     sunk-part at n ss len k (omega arith)
     ∙ rw (h, take-all (length ss) ss (omega arith), drop-length ss, append-nil)
-
--- the table keeps its length
-pub length-sunk : (at n : ℕ) (t : List ℕ) (k : ℕ) → length (sunk at n t k) ≡ length t
-unfolding sunk
-length-sunk at n t zero = refl
-length-sunk at n t (suc k) = simp length-set (length-sunk at n t k)
 
 -- no row, as a loop starts
 pub sunk-none : (at n : ℕ) (t : List ℕ) → t ≡ sunk at n t 0

@@ -15,9 +15,11 @@ use Rattle.rows.specs.declared.Row.the-variants.{At, Nothing}
 use Rattle.rows.specs.declared.Slot.{Slot}
 use Rattle.rows.specs.Image.{closed}
 
+-- the number by which a slot is found: its tag
 abbrev pub slotTag : Slot → ℕ
 slotTag s = s .about .tag
 
+-- the slot of a row that is not used
 abbrev pub empty : Slot
 empty = record { about = record { tag = 0; size = 0; mode = Both; spf = false; lock = Plain }; at = 0; held = 0 }
 
@@ -28,10 +30,12 @@ abbrev pub lockWord : Access → ℕ
 lockWord Plain = 0
 lockWord (Password p) = 1
 
+-- and the password is the next; none is zero there
 abbrev pub passwordWord : Access → ℕ
 passwordWord Plain = 0
 passwordWord (Password p) = p
 
+-- the words of a slot, in the order above
 unfoldable pub words : Slot → List ℕ
 words s =
     s .about .tag
@@ -46,6 +50,7 @@ words s =
 
 -- ---- and back
 
+-- the lock that the two words of it stand for
 abbrev pub lockOf : ℕ → ℕ → Access
 lockOf l p = pick (eqb l 0) Plain (Password p)
 
@@ -84,7 +89,7 @@ scan t x k (suc n) = pick (eqb (getD t (k * 8) 0) x) (At k) (scan t x (suc k) n)
 
 -- ---- a row goes
 
--- a place behind `at` comes down by n
+-- a place behind `at` comes down by n; any other stays
 abbrev pub low : ℕ → ℕ → ℕ → ℕ
 low at n a = pick (ltb at a) (a - n) a
 
