@@ -131,10 +131,6 @@ pub arranged-none : (m : List Tag) (x : ℕ) → look slotTag x (arranged m) ≡
 unfolding arranged
 arranged-none m x h = located-none x 0 m h
 
-pub none-arranged : (m : List Tag) (x : ℕ) → look tagId x m ≡ nowhere → look slotTag x (arranged m) ≡ nowhere
-unfolding arranged
-none-arranged m x h = none-located x 0 m h
-
 pub arranged-change : (m : List Tag) (x : ℕ) (xs : List ℕ)
     → arranged (change tagId x (written xs) m) ≡ change slotTag x (refilled (length xs)) (arranged m)
 unfolding arranged

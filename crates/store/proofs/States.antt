@@ -63,20 +63,14 @@ module _ (u : State) (h : Head) (table pool : List ℕ) (s : Shows u h table poo
   pub used-is : h .used ≡ total (u .tags)
   used-is = ap (λ (x : Head). x .used) (s .head)
 
-  -- the table has a row for every tag that the unit may have, and the memory all of its octets
+  -- the table has a row for every tag, and the memory all of its octets
   rows-fit : length (arranged (u .tags)) * 8 ≤ u .limits .tags * 8
   rows-fit = omega (arith, Located.length-arranged (u .tags), s .valid .few)
-
-  pub table-long : length table ≡ u .limits .tags * 8
-  table-long = ap length (s .rows) ∙ Rows.length-table (arranged (u .tags)) (u .limits .tags * 8) rows-fit
 
   pub pool-long : length pool ≡ u .limits .memory
   pool-long =
       ap length (s .octets)
       ∙ Images.length-image area (u .tags) (u .limits .memory) (omega (arith, Areas.length-areas (u .limits) (u .tags) (s .valid .proper), s .valid .room))
-
-  pub rows-there : h .count * 8 ≤ length table
-  rows-there = omega (arith, count-is, table-long, s .valid .few)
 
   pub used-there : h .used ≤ length pool
   used-there = omega (arith, used-is, pool-long, s .valid .room)

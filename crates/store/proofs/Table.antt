@@ -2,7 +2,7 @@
 -- proved by computation. Document 01, 'Tags', 'Denials and their order', 'Lists' and 'Known exchanges'.
 use Prim.Native.Nat.{ℕ, zero, suc}
 use mathlib.Core.Bool.{Bool, true, false}
-use mathlib.Core.List.{List, [], _∷_, _++_, map}
+use mathlib.Core.List.{List, [], _∷_, _++_}
 use mathlib.Core.Path.{_≡_, refl}
 use Rattle.octets.specs.Number.{bare}
 use Rattle.octets.specs.declared.Access.{Access}
@@ -16,21 +16,15 @@ use Rattle.admission.specs.declared.Verdict.the-variants.{Allowed, Denied}
 use Rattle.rows.specs.Image.{flat, image}
 use Rattle.rows.specs.Keyed.{look, change, without}
 use Rattle.rows.specs.Row.{words}
+use Rattle.rows.proofs.Table.{is, should}
 use Rattle.store.specs.Answers.{Begun, made, refused, started, found}
-use Rattle.store.specs.History.{Call, allocate, fit, free, write, step, afterAll}
+use Rattle.store.specs.History.{Call, allocate, fit, free, write, ask, step, afterAll, allGranted, allFreed}
 use Rattle.store.specs.Model.{State, newUnit, firstKind, headOf, total, area, located, arranged}
+use Rattle.store.specs.Raw.{overwritten}
 use Rattle.store.specs.Steps.{Content, content, denied, registered, writeStep, freeStep, allocateStep, fitStep, readStep, remainder}
 use Rattle.store.specs.declared.Found.{Found}
 use Rattle.store.specs.declared.Found.the-variants as f
 use Rattle.store.specs.declared.Remaining.{Remaining}
-
--- what is computed, and what it has to be
-module _ {A : Type 0} where
-  abbrev is : List (A × A) → List A
-  is rows = map (λ (x : A × A). x .0) rows
-
-  abbrev should : List (A × A) → List A
-  should rows = map (λ (x : A × A). x .1) rows
 
 -- ---- tags and calls
 
@@ -271,6 +265,52 @@ remainders =
 pub remainders-hold : is remainders ≡ should remainders
 unfolding admission afterAll allocateStep bare change fitStep freeStep look registered total unitManaged without writeStep
 remainders-hold = refl
+
+-- ---- what calls granted and freed, of a new unit
+
+abbrev history : List Call → ℕ × ℕ
+history cs = (allGranted (newUnit firstKind 1 true true) cs, allFreed (newUnit firstKind 1 true true) cs)
+
+abbrev histories : List ((ℕ × ℕ) × (ℕ × ℕ))
+histories =
+    (history [], (0, 0))
+    -- sizes count, not what is held
+    ∷ (history two, (5, 0))
+    ∷ (history (two ++ gone K3F ∷ []), (5, 3))
+    ∷ (history (two ++ gone K ∷ new K 4 ∷ gone K80 ∷ []), (9, 5))
+    -- "a fitted tag counting as granted"; it is not freed
+    ∷ (history (own U 7 (1 ∷ []) ∷ gone U ∷ []), (7, 0))
+    -- what is refused neither grants nor frees
+    ∷ (history (new K 3 ∷ new K 4 ∷ own U 8 [] ∷ own U 9 [] ∷ new K80 0 ∷ []), (11, 0))
+    ∷ (history (new K 3 ∷ gone K80 ∷ locked P ∷ []), (3, 0))
+    ∷ (history (locked P ∷ gone K ∷ free K Normal (Password P) ∷ gone K ∷ []), (1, 1))
+    -- nor do a write and what changes nothing
+    ∷ (history (new K 3 ∷ put K (1 ∷ 2 ∷ []) ∷ ask ∷ put K [] ∷ []), (3, 0))
+    ∷ []
+
+pub histories-hold : is histories ≡ should histories
+unfolding admission afterAll allFreed allGranted allocateStep bare change fitStep freeStep look registered total unitManaged without writeStep
+histories-hold = refl
+
+-- ---- what a write leaves in the memory
+
+-- an area at 1: "the rest of the area is zero", which was zero but for what was held
+abbrev nines : List ℕ
+nines = 9 ∷ 9 ∷ 9 ∷ 9 ∷ 9 ∷ 9 ∷ []
+
+abbrev overwritings : List (List ℕ × List ℕ)
+overwritings =
+    -- less than was held, as much, more, nothing; where nothing was held
+    (overwritten nines 1 3 (7 ∷ []), 9 ∷ 7 ∷ 0 ∷ 0 ∷ 9 ∷ 9 ∷ [])
+    ∷ (overwritten nines 1 2 (7 ∷ 8 ∷ []), 9 ∷ 7 ∷ 8 ∷ 9 ∷ 9 ∷ 9 ∷ [])
+    ∷ (overwritten nines 1 1 (7 ∷ 8 ∷ []), 9 ∷ 7 ∷ 8 ∷ 9 ∷ 9 ∷ 9 ∷ [])
+    ∷ (overwritten nines 1 2 [], 9 ∷ 0 ∷ 0 ∷ 9 ∷ 9 ∷ 9 ∷ [])
+    ∷ (overwritten nines 4 0 (7 ∷ 8 ∷ []), 9 ∷ 9 ∷ 9 ∷ 9 ∷ 7 ∷ 8 ∷ [])
+    ∷ []
+
+pub overwritings-hold : is overwritings ≡ should overwritings
+unfolding overwritten
+overwritings-hold = refl
 
 -- ---- a small unit: 2 tags, 12 octets, areas of up to 8
 

@@ -29,10 +29,12 @@ use Rattle.store.specs.declared.Start.the-variants as s
 
 -- ---- start
 
+-- what a start says: the head of the new unit, or document 01's number
 pub data Begun : Type 0 where
   made : Head → Begun
   refused : ℕ → Begun
 
+-- what an answer of start says
 abbrev pub begun : Start → Begun
 begun (s.Made h) = made h
 begun s.Refused = refused 301
@@ -62,11 +64,12 @@ abbrev pub heldIn : List ℕ → Held → Content
 heldIn pool (h.Data p) = content (within pool p)
 heldIn pool (h.Denied d) = denied d
 
--- where it lies
+-- it lies within the memory, and is no longer than an area may be
 abbrev pub heldPlace : List ℕ → Limits → Held → Type 0
 heldPlace pool l (h.Data p) = (p .start + p .len ≤ length pool) × (p .len ≤ l .area)
 heldPlace pool l (h.Denied d) = Unit {0}
 
+-- where the data in a slot lies, or the number of the denial. What may be read has a slot, so that the first line does not come up
 abbrev pub heldAt : Verdict → Maybe Slot → Held
 heldAt v.Allowed nowhere = h.Denied 6
 heldAt v.Allowed (here s) = h.Data (record { start = s .at; len = s .held })

@@ -36,6 +36,7 @@ step u (free x p a) = freeStep u x p a
 step u (write x xs p a) = writeStep u x xs p a
 step u ask = record { answer = Allowed; unit = u }
 
+-- the unit that a call leaves
 abbrev pub after : State → Call → State
 after u c = step u c .unit
 
@@ -44,7 +45,7 @@ abbrev pub ifAllowed : Verdict → ℕ → ℕ
 ifAllowed Allowed n = n
 ifAllowed (Denied d) n = 0
 
--- the size that a call asks for
+-- the size that a call asks for, "a fitted tag counting as granted"
 abbrev pub wanted : Call → ℕ
 wanted (allocate x size mode spf p a) = size
 wanted (fit x size mode spf lock xs) = size
@@ -52,9 +53,11 @@ wanted (free x p a) = 0
 wanted (write x xs p a) = 0
 wanted ask = 0
 
+-- "the sizes granted", by one call
 abbrev pub granted : State → Call → ℕ
 granted u c = ifAllowed (step u c .answer) (wanted c)
 
+-- the size of a tag that was found
 abbrev pub sizeBy : Maybe Tag → ℕ
 sizeBy nowhere = 0
 sizeBy (here t) = t .about .size
@@ -67,19 +70,23 @@ returned u (free x p a) = sizeBy (registered u x)
 returned u (write x xs p a) = 0
 returned u ask = 0
 
+-- "the sizes freed", by one call
 abbrev pub freed : State → Call → ℕ
 freed u c = ifAllowed (step u c .answer) (returned u c)
 
 -- ---- over a sequence of calls
 
+-- the unit that they leave
 unfoldable pub afterAll : State → List Call → State
 afterAll u [] = u
 afterAll u (c ∷ cs) = afterAll (after u c) cs
 
+-- "the sizes granted" by them all
 unfoldable pub allGranted : State → List Call → ℕ
 allGranted u [] = 0
 allGranted u (c ∷ cs) = granted u c + allGranted (after u c) cs
 
+-- "the sizes freed over the unit's history"
 unfoldable pub allFreed : State → List Call → ℕ
 allFreed u [] = 0
 allFreed u (c ∷ cs) = freed u c + allFreed (after u c) cs

@@ -20,6 +20,8 @@ pub record Tag : Type 0 where
   pub about : Attributes
   pub held : List ℕ
 
+-- "A unit is started with its own version (0 to 15) and two options: allocation fitted or not, passwords fitted or not." Its limits are its kind's; its tags stand as they
+-- were registered
 pub record State : Type 0 where
   pub limits : Limits
   pub version : ℕ
@@ -40,6 +42,7 @@ newUnit l v a p = record { limits = l; version = v; allocation = a; passwords = 
 abbrev pub holding : State → List Tag → State
 holding u m = record { limits = u .limits; version = u .version; allocation = u .allocation; passwords = u .passwords; tags = m }
 
+-- the number by which a tag is found: "A tag is 8 octets"
 abbrev pub tagId : Tag → ℕ
 tagId t = t .about .tag
 
@@ -57,6 +60,7 @@ pub record Proper (l : Limits) (t : Tag) : Type 0 where
   pub small : t .about .size ≤ l .area
   pub fits : length (t .held) ≤ t .about .size
 
+-- P holds of each tag
 unfoldable pub Each : (Tag → Type 0) → List Tag → Type 0
 Each P [] = _≡_ {A = ℕ} 0 0
 Each P (t ∷ ts) = P t × Each P ts
@@ -78,7 +82,7 @@ pub record Valid (u : State) : Type 0 where
 
 -- ---- what stands for it
 
--- how many tags, and how many octets their areas take
+-- the head of a unit: with how many tags there are, and how many octets their areas take
 abbrev pub headOf : State → Head
 headOf u = record {
   limits = u .limits;

@@ -30,6 +30,7 @@ abbrev pub knownOf : Maybe Tag → Known
 knownOf nowhere = k.Nothing
 knownOf (here t) = k.Tag (t .about)
 
+-- what becomes of a want of the tag x
 abbrev pub verdict : State → ℕ → Want → Port → Access → Verdict
 verdict u x w p a = admission (headOf u) (knownOf (registered u x)) w p a
 
@@ -47,6 +48,7 @@ acted u (Denied d) m = record { answer = Denied d; unit = u }
 abbrev pub written : List ℕ → Tag → Tag
 written xs t = record { about = t .about; held = xs }
 
+-- a write: "Data of length 0 is allowed"
 unfoldable pub writeStep : State → ℕ → List ℕ → Port → Access → Step
 writeStep u x xs p a = acted u (verdict u x (Write (length xs)) p a) (change tagId (bare x) (written xs) (u .tags))
 
@@ -84,10 +86,12 @@ abbrev pub heldBy : Maybe Tag → List ℕ
 heldBy nowhere = []
 heldBy (here t) = t .held
 
+-- what a read says, by its verdict
 abbrev pub contentBy : Verdict → List ℕ → Content
 contentBy Allowed xs = content xs
 contentBy (Denied d) xs = denied d
 
+-- a read
 unfoldable pub readStep : State → ℕ → Port → Access → Content
 readStep u x p a = contentBy (verdict u x Read p a) (heldBy (registered u x))
 
