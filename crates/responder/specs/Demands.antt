@@ -95,21 +95,23 @@ pub record Command : Type 0 where
   pub request : List ℕ
   pub area : ℕ
 
--- what a unit says to commands one after another, and the unit that they leave
+-- what a unit says to commands one after another
 unfoldable pub results : State → List Command → List Result
 results u [] = []
 results u (c ∷ cs) = respond u (c .port) (c .request) (c .area) .result ∷ results (respond u (c .port) (c .request) (c .area) .unit) cs
 
+-- and the unit that they leave
 unfoldable pub final : State → List Command → State
 final u [] = u
 final u (c ∷ cs) = final (respond u (c .port) (c .request) (c .area) .unit) cs
 
--- "none carrying for that tag either unit's password for it."
--- every tag of a request with what it carries for it: of each kind of command, bulk entries and allocation included
+-- the tags of memory data, each with what is carried for it
 abbrev pub carriedOf : List Held → List Keyed
 carriedOf [] = []
 carriedOf (h ∷ hs) = h .0 ∷ carriedOf hs
 
+-- "none carrying for that tag either unit's password for it."
+-- every tag of a request with what it carries for it: of each kind of command, bulk entries and allocation included
 abbrev pub carried : q.Body → List Keyed
 carried (q.resourceInformation ks) = ks
 carried (q.allocate g) = (g .tag, g .access) ∷ []
@@ -124,6 +126,7 @@ abbrev pub Spares : ℕ → ℕ → ℕ → Keyed → Type 0
 Spares x a b (y, Plain) = Unit {0}
 Spares x a b (y, Password w) = bare y ≡ bare x → (w ≡ a → ⊥) × (w ≡ b → ⊥)
 
+-- and so of every tag of a request
 unfoldable pub SparesAll : ℕ → ℕ → ℕ → List Keyed → Type 0
 SparesAll x a b [] = Unit {0}
 SparesAll x a b (k ∷ ks) = Spares x a b k × SparesAll x a b ks
@@ -167,6 +170,7 @@ pub record Sending : Type 0 where
 abbrev pub commandOf : Sending → Command
 commandOf c = record { port = c .port; request = c .request; area = length (c .area) }
 
+-- and those of sendings one after another
 abbrev pub commandsOf : List Sending → List Command
 commandsOf [] = []
 commandsOf (c ∷ cs) = commandOf c ∷ commandsOf cs
@@ -203,6 +207,7 @@ AllPlain [] = Unit {0}
 AllPlain ((y, Plain) ∷ ks) = AllPlain ks
 AllPlain ((y, Password w) ∷ ks) = ⊥
 
+-- octets that do not decode carry none
 abbrev pub PlainTold : Told (Message q.Body) → Type 0
 PlainTold (message m) = AllPlain (carried (m .body))
 PlainTold (refused n fault) = Unit {0}

@@ -34,10 +34,12 @@ pub data Word : Type 0 where
   length-is : ℕ → Word
   refusal : ℕ → Word
 
+-- what the entry's answer says: without an answer the number is 300
 abbrev pub wordOf : Sent → Word
 wordOf (s.Answer n) = length-is n
 wordOf s.NoRoom = refusal 300
 
+-- what a result says
 abbrev pub wordFor : Result → Word
 wordFor (silent n) = refusal n
 wordFor (replied a) = length-is (length (answerOctets a))

@@ -20,7 +20,7 @@ unfoldable pub writesOf : Port → List Held → List Call
 writesOf p [] = []
 writesOf p (h ∷ hs) = write (h .0 .0) (h .1) p (h .0 .1) ∷ writesOf p hs
 
--- an operation
+-- the calls of an operation
 abbrev pub callsOf : Port → q.Body → List Call
 callsOf p (q.resourceInformation ks) = []
 callsOf p (q.allocate g) = allocate (g .tag) (g .size) (codeMode (g .mode)) (codeSpf (g .mode)) p (g .access) ∷ []
@@ -35,6 +35,7 @@ abbrev pub callsTold : State → Port → Told (Message q.Body) → List Call
 callsTold u p (refused n fault) = []
 callsTold u p (message m) = pick (ltb (u .limits .list) (entriesOf (m .body))) [] (callsOf p (m .body))
 
+-- a request that no first line denies
 abbrev pub callsLined : State → Port → List ℕ → Line → List Call
 callsLined u p s (number n) = []
 callsLined u p s none = callsTold u p (told (requestRead s))
