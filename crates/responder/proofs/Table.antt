@@ -1,31 +1,49 @@
 -- The definitions at the boundaries that no exchange of the first kind of unit comes to, by computation: every operation type under each pair of options, the largest
--- numbers of resource information's fields, the shortest answer area, what is carried and counted of a request, and the store's calls that it amounts to.
+-- numbers of resource information's fields, the shortest answer area, what is carried and counted of a request, and the store's calls that it amounts to. And that
+-- there is what demand 3 speaks of: two such units, and commands that carry neither password.
 use Prim.Native.Nat.{ℕ, zero, suc}
+use native.Mathlib.Omega.{arith}
 use mathlib.Core.Bool.{Bool, true, false}
 use mathlib.Core.List.{List, [], _∷_, _++_, map}
 use mathlib.Core.Path.{_≡_, refl}
 use Rattle.octets.specs.Length.{decodeLength}
-use Rattle.octets.specs.Number.{number, decodeNumber}
+use Rattle.octets.specs.Number.{number, decodeNumber, bare}
 use Rattle.octets.specs.Frame.{heading, enclosed, decode, receive}
 use Rattle.octets.specs.Reading.{pick}
 use Rattle.octets.specs.declared.Access.the-variants.{Plain, Password}
+use Rattle.octets.specs.declared.Port.{Port}
 use Rattle.octets.specs.declared.Port.the-variants.{Normal, Secure}
 use Rattle.tags.specs.Entry.{Keyed}
+use Rattle.resources.specs.Resource.{modeKnown}
 use Rattle.resources.specs.declared.Resource.{Resource}
 use Rattle.resources.specs.declared.Room.{Room}
 use Rattle.requests.specs.Command.{known}
 use Rattle.requests.specs.Request.{requestBody}
 use Rattle.requests.specs.Request as q
-use Rattle.answers.proofs.Worked.{K, W, k, times}
+use Rattle.answers.proofs.Worked.{K, W, k, w, p, times}
+use Rattle.admission.specs.Admission.{unitManaged, admission}
 use Rattle.admission.specs.declared.Mode.{Mode}
 use Rattle.admission.specs.declared.Mode.the-variants.{Both, ReadOnly, WriteOnly}
+use Rattle.rows.specs.Keyed.{look, change}
 use Rattle.rows.proofs.Table.{is, should}
 use Rattle.store.specs.History.{Call, allocate, free, write}
-use Rattle.store.specs.Model.{State, newUnit, total}
-use Rattle.responder.specs.Demands.{carried}
+use Rattle.store.specs.Model.{Tag, State, newUnit, total}
+use Rattle.store.specs.Steps.{registered, allocateStep, writeStep}
+use Rattle.responder.specs.Demands.{Protected, Twins, Command, final, carried, SparesAll, Clean}
 use Rattle.responder.specs.Log.{writesOf, callsOf, calls}
-use Rattle.responder.specs.Respond.{denial, roomOf, resourceAs, fitted, firstLines, entriesOf, handled, Result, silent, replied, respond}
+use Rattle.responder.specs.Respond.{denial, allocateDone, writeDone, roomOf, resourceAs, act, fitted, firstLines, entriesOf, handled, Result, silent, replied, respond}
 use Rattle.responder.proofs.Starred.{fresh}
+
+-- a command with a whole answer area
+abbrev by : Port → List ℕ → Command
+by port request = record { port = port; request = request; area = 2048 }
+
+-- document 01's P, and K with its six ignored bits set
+abbrev P : ℕ
+P = 0x0102030405060708
+
+abbrev K3F : ℕ
+K3F = 0x3F11223344556677
 
 -- ---- operation types
 
@@ -173,3 +191,50 @@ bodies-hold = (refl, refl, refl)
 pub commands-hold : is commands ≡ should commands
 unfolding calls writesOf firstLines fitted known receive decode heading enclosed requestBody decodeLength decodeNumber number
 commands-hold = refl
+
+-- ---- what demand 3 speaks of is there
+
+-- K is allocated with a password, W with P, and an octet is written to K
+abbrev makes : List ℕ → ℕ → List Command
+makes password x =
+    by Normal ((0x10 ∷ 0x01 ∷ 0x41 ∷ 0x00 ∷ 0x16 ∷ []) ++ k ++ (0x00 ∷ 0x00 ∷ 0x00 ∷ 0x00 ∷ 0x01 ∷ []) ++ password ++ (0x00 ∷ []))
+    ∷ by Normal ((0x10 ∷ 0x01 ∷ 0x41 ∷ 0x00 ∷ 0x16 ∷ []) ++ w ++ (0x00 ∷ 0x00 ∷ 0x00 ∷ 0x00 ∷ 0x01 ∷ []) ++ p ++ (0x00 ∷ []))
+    ∷ by Normal ((0x10 ∷ 0x01 ∷ 0x44 ∷ 0x00 ∷ 0x12 ∷ []) ++ k ++ password ++ (0x01 ∷ x ∷ []))
+    ∷ []
+
+-- two units: K has the password P and holds AA, or has all zeros for a password and holds BB
+abbrev one : State
+one = final fresh (makes p 0xaa)
+
+abbrev other : State
+other = final fresh (makes (times 8 0x00) 0xbb)
+
+abbrev record-of : ℕ → ℕ → Tag
+record-of password x = record { about = record { tag = K; size = 1; mode = Both; spf = false; lock = Password password }; held = x ∷ [] }
+
+pub protected-there : Protected (record-of P 0xaa) (record-of 0 0xbb) P 0
+protected-there = record { tag = refl; size = refl; mode = refl; spf = refl; lock = refl; lock′ = refl; held = refl }
+
+-- by K with its six ignored bits set
+pub twins-there : Twins K3F (record-of P 0xaa) (record-of 0 0xbb) one other
+unfolding final respond handled firstLines fitted known receive decode heading enclosed requestBody decodeLength decodeNumber number modeKnown act allocateDone writeDone allocateStep writeStep registered look change admission unitManaged bare total
+twins-there = record { has = refl; but = refl }
+
+-- commands that carry for K neither password: none, another, P for another tag, P as data, and octets that do not decode
+abbrev clean : List Command
+clean =
+    by Normal ((0x10 ∷ 0x01 ∷ 0x06 ∷ 0x00 ∷ 0x12 ∷ 0x01 ∷ []) ++ k ++ (0x08 ∷ []) ++ p)
+    ∷ by Secure ((0x10 ∷ 0x01 ∷ 0x43 ∷ 0x00 ∷ 0x10 ∷ []) ++ k ++ times 7 0x00 ++ (0x01 ∷ []))
+    ∷ by Normal ((0x10 ∷ 0x01 ∷ 0x43 ∷ 0x00 ∷ 0x10 ∷ []) ++ w ++ p)
+    ∷ by Normal ((0x10 ∷ 0x01 ∷ 0x43 ∷ 0x00 ∷ 0x0f ∷ []) ++ k ++ p)
+    ∷ []
+
+pub clean-there : Clean K P 0 clean
+unfolding Clean SparesAll receive decode heading enclosed requestBody decodeLength decodeNumber number known bare
+clean-there = ((tt, tt), (((λ e. (λ q. omega (arith, q), λ q. omega (arith, q))), tt), (((λ e. absurd (omega (arith, e))), tt), (tt, tt))))
+
+-- P for K is not clean, nor all zeros, its six ignored bits set, in a list behind another entry
+pub unclean-there : (Clean K P 0 (by Normal ((0x10 ∷ 0x01 ∷ 0x43 ∷ 0x00 ∷ 0x10 ∷ []) ++ k ++ p) ∷ []) → ⊥)
+    × (Clean K P 0 (by Normal ((0x10 ∷ 0x01 ∷ 0x45 ∷ 0x00 ∷ 0x21 ∷ 0x02 ∷ []) ++ w ++ p ++ (0x3f ∷ 0x11 ∷ 0x22 ∷ 0x33 ∷ 0x44 ∷ 0x55 ∷ 0x66 ∷ 0x77 ∷ []) ++ times 8 0x00) ∷ []) → ⊥)
+unfolding Clean SparesAll receive decode heading enclosed requestBody decodeLength decodeNumber number known bare
+unclean-there = (λ c. c .0 .0 refl .0 refl, λ c. c .0 .1 .0 refl .1 refl)
