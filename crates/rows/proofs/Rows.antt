@@ -1,6 +1,6 @@
 -- The table's words and its slots: what the functions of this crate do to a table that is the image of slots. Assumes nothing.
 use mathlib.Core.Path.{_≡_, refl, sym, ap, _∙_}
-use mathlib.Core.List.{List, [], _∷_, _++_, append-nil, append-assoc}
+use mathlib.Core.List.{List, [], _∷_, _++_, append-nil, append-assoc, flatMap}
 use mathlib.Core.Bool.{Bool, true, false}
 use Prim.Native.Nat.{ℕ, zero, suc, _+_, _-_, _*_, _≤_, _<_, _/_}
 use native.Mathlib.Omega.{arith}
@@ -15,7 +15,7 @@ use Rattle.octets.specs.declared.Access.{Access}
 use Rattle.admission.specs.Mode.{modeCode, codeSpf, codeMode}
 use Rattle.admission.specs.declared.Mode.{Mode}
 use Rattle.rows.specs.Keyed.{nowhere, look}
-use Rattle.rows.specs.Image.{flat, image, closed}
+use Rattle.rows.specs.Image.{image, closed}
 use Rattle.rows.specs.Row.{slotTag, empty, lockWord, passwordWord, words, lockOf, slotIn, slotAt, withHeld, rowsIn, scan, low, sunk, removed}
 use Rattle.rows.specs.declared.Row.{Row}
 use Rattle.rows.specs.declared.Slot.{Slot}
@@ -62,13 +62,13 @@ unfolding words
 words-empty = refl
 
 -- so the rows take eight words each
-pub length-words : (ss : List Slot) → length (flat words ss) ≡ length ss * 8
-unfolding flat words
+pub length-words : (ss : List Slot) → length (flatMap words ss) ≡ length ss * 8
+unfolding flatMap words
 length-words [] = refl
 length-words (t ∷ m) = omega (arith, length-words m)
 
 -- where row i starts
-pub row-at : (ss : List Slot) (i at : ℕ) → i ≤ length ss → at ≡ i * 8 → at ≡ length (flat words (take i ss))
+pub row-at : (ss : List Slot) (i at : ℕ) → i ≤ length ss → at ≡ i * 8 → at ≡ length (flatMap words (take i ss))
 row-at ss i at h e = omega (arith, length-words (take i ss), length-take-le i ss h)
 
 -- the table of slots is as long as its slice

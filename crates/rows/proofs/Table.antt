@@ -1,14 +1,14 @@
 -- The definitions at their boundaries, by computation: a table of three rows, what is found, changed and removed in it, and lists by number. Tables, each with one proof.
 use Prim.Native.Nat.{ℕ}
 use mathlib.Core.Bool.{Bool, true, false}
-use mathlib.Core.List.{List, [], _∷_, _++_, map}
+use mathlib.Core.List.{List, [], _∷_, _++_, map, flatMap}
 use mathlib.Core.Path.{_≡_, refl}
 use lib.ListN.{take}
 use Rattle.octets.specs.declared.Access.{Access}
 use Rattle.octets.specs.declared.Access.the-variants.{Plain, Password}
 use Rattle.admission.specs.declared.Mode.{Mode}
 use Rattle.admission.specs.declared.Mode.the-variants.{Both, ReadOnly, WriteOnly}
-use Rattle.rows.specs.Image.{flat, image, closed}
+use Rattle.rows.specs.Image.{image, closed}
 use Rattle.rows.specs.Keyed.{Maybe, nowhere, here, look, change, without}
 use Rattle.rows.specs.Row.{empty, words, lockOf, slotIn, slotAt, withHeld, rowsIn, scan, low, sunk, removed}
 use Rattle.rows.specs.declared.Row.{Row}
@@ -193,5 +193,5 @@ images =
     ∷ []
 
 pub lists-hold : (is looks ≡ should looks) × (is others ≡ should others) × (is images ≡ should images)
-unfolding look change without image flat
+unfolding look change without image flatMap
 lists-hold = (refl, refl, refl)

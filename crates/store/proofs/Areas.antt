@@ -1,13 +1,13 @@
 -- The areas in the memory: how long they are together, and what other contents, a tag less and a tag more leave.
 use Prim.Native.Nat.{ℕ, zero, suc, _+_, _-_, _≤_, _<_}
 use mathlib.Core.Path.{_≡_, refl, sym, ap, _∙_}
-use mathlib.Core.List.{List, [], _∷_, _++_, append-assoc}
+use mathlib.Core.List.{List, [], _∷_, _++_, append-assoc, flatMap}
 use native.Mathlib.Omega.{arith}
 use native.Mathlib.Nat.{sub-zero}
 use lib.ListN.{length, take, drop, getD, set, replicate, length-append, length-replicate, take-append-drop, replicate-append-replicate}
 use lib.Seq.{sets, drop-append-add, length-take-le, take-at}
 use Rattle.admission.specs.declared.Limits.{Limits}
-use Rattle.rows.specs.Image.{flat, image, closed}
+use Rattle.rows.specs.Image.{image, closed}
 use Rattle.rows.proofs.Images
 use Rattle.rows.proofs.Places.{remove, sets-mid, sets-sets}
 use Rattle.store.specs.Model.{Tag, total, area, Proper, Each}
@@ -65,13 +65,13 @@ refilled t xs p q at k ep h hx ek =
 
 module _ (l : Limits) where
   -- the areas are as long as their sizes together
-  pub length-areas : (m : List Tag) → Each (Proper l) m → length (flat area m) ≡ total m
-  unfolding total flat Each
+  pub length-areas : (m : List Tag) → Each (Proper l) m → length (flatMap area m) ≡ total m
+  unfolding total flatMap Each
   length-areas [] p = refl
-  length-areas (t ∷ m) p = omega (arith, length-append (area t) (flat area m), length-area t (p .0 .fits), length-areas m (p .1))
+  length-areas (t ∷ m) p = omega (arith, length-append (area t) (flatMap area m), length-area t (p .0 .fits), length-areas m (p .1))
 
   -- an area starts behind those before it
-  pub area-starts : (m : List Tag) (j at : ℕ) → Each (Proper l) m → at ≡ total (take j m) → at ≡ length (flat area (take j m))
+  pub area-starts : (m : List Tag) (j at : ℕ) → Each (Proper l) m → at ≡ total (take j m) → at ≡ length (flatMap area (take j m))
   area-starts m j at p e = e ∙ sym (length-areas (take j m) (each-take (Proper l) j m p))
 
   -- other contents of the tag at place j
@@ -81,18 +81,18 @@ module _ (l : Limits) where
   memory-refilled m j n at k i xs h p ea hx ek ei =
       let t : Tag = getD m j none in
       let ft : length (t .held) ≤ t .about .size = each-at (Proper l) m j h p .fits in
-      let q : List ℕ = flat area (drop (suc j) m) ++ replicate (n - length (flat area m)) 0 in
+      let q : List ℕ = flatMap area (drop (suc j) m) ++ replicate (n - length (flatMap area m)) 0 in
       let e : length (area (written xs t)) ≡ length (area t) = length-area (written xs t) hx ∙ sym (length-area t ft) in
       sets-sets (image area m n) xs (replicate k 0) at i ei
       ∙ ap (λ (d : List ℕ). sets d at (xs ++ replicate k 0)) (Images.image-around none area m j n h)
-      ∙ refilled t xs (flat area (take j m)) q at k (sym (area-starts m j at p ea)) ft hx ek
+      ∙ refilled t xs (flatMap area (take j m)) q at k (sym (area-starts m j at p ea)) ft hx ek
       ∙ sym (Images.image-set none area m j n (written xs t) h e)
 
   -- without the tag at place j
   pub memory-closed : (m : List Tag) (j n at k end : ℕ) → j < length m → Each (Proper l) m → at ≡ total (take j m) → k ≡ getD m j none .about .size
       → end ≡ total m → total m ≤ n → closed (image area m n) at k end ≡ image area (remove m j) n
   memory-closed m j n at k end h p ea ek ee hn =
-      let le : length (flat area m) ≡ total m = length-areas m p in
+      let le : length (flatMap area m) ≡ total m = length-areas m p in
       Images.image-closed none area m j n at k end h (area-starts m j at p ea) (ek ∙ sym (length-area (getD m j none) (each-at (Proper l) m j h p .fits)))
       (ee ∙ sym le) (omega arith)
 

@@ -1,7 +1,7 @@
 -- What head, table and memory that stand for a unit tell of it, and what they stand for after each operation. Nothing here knows the order of the table.
 use Prim.Native.Nat.{ℕ, suc, _+_, _-_, _*_, _≤_, _<_}
 use mathlib.Core.Path.{_≡_, refl, sym, ap, _∙_}
-use mathlib.Core.List.{List, [], _∷_, _++_}
+use mathlib.Core.List.{List, [], _∷_, _++_, flatMap}
 use native.Mathlib.Omega.{arith}
 use lib.ListN.{length, take, drop, getD, set, replicate, length-append}
 use lib.Seq.{sets, take-at, drop-at, set-at, getD-at}
@@ -12,7 +12,7 @@ use Rattle.octets.specs.declared.Port.{Port}
 use Rattle.admission.specs.Admission.{admission}
 use Rattle.admission.specs.Want.{Known as Knowledge, Want}
 use Rattle.admission.specs.declared.Head.{Head}
-use Rattle.rows.specs.Image.{flat, image, closed}
+use Rattle.rows.specs.Image.{image, closed}
 use Rattle.rows.specs.Keyed.{nowhere, here, look, change, without}
 use Rattle.rows.specs.Row.{empty, slotTag, words, slotAt, withHeld, rowsIn, scan, removed}
 use Rattle.rows.specs.declared.Row.{Row}
@@ -119,13 +119,13 @@ module _ (u : State) (h : Head) (table pool : List ℕ) (s : Shows u h table poo
       let m : List Tag = u .tags in
       let n : ℕ = u .limits .memory in
       let t : Tag = getD m (k .j) none in
-      let q : List ℕ = flat area (drop (suc (k .j)) m) ++ replicate (n - length (flat area m)) 0 in
+      let q : List ℕ = flatMap area (drop (suc (k .j)) m) ++ replicate (n - length (flatMap area m)) 0 in
       let ea : slotAt table i .at ≡ total (take (k .j) m) = ap (λ (r : Slot). r .at) (k .is) in
       let eh : slotAt table i .held ≡ length (t .held) = ap (λ (r : Slot). r .held) (k .is) in
-      let a : pool ≡ flat area (take (k .j) m) ++ (area t ++ q) = s .octets ∙ Images.image-around none area m (k .j) n (k .low) in
+      let a : pool ≡ flatMap area (take (k .j) m) ++ (area t ++ q) = s .octets ∙ Images.image-around none area m (k .j) n (k .low) in
       let d : drop (slotAt table i .at) pool ≡ area t ++ q =
       ap (drop (slotAt table i .at)) a
-      ∙ drop-at (flat area (take (k .j) m)) (area t ++ q) (slotAt table i .at) (sym (Areas.area-starts (u .limits) m (k .j) (slotAt table i .at) (s .valid .proper) ea)) in
+      ∙ drop-at (flatMap area (take (k .j) m)) (area t ++ q) (slotAt table i .at) (sym (Areas.area-starts (u .limits) m (k .j) (slotAt table i .at) (s .valid .proper) ea)) in
       ap (take (slotAt table i .held)) d ∙ Areas.area-held t (slotAt table i .held) eh q
 
   -- ---- the row of a tag

@@ -2,7 +2,7 @@
 -- proved by computation. Document 01, 'Tags', 'Denials and their order', 'Lists' and 'Known exchanges'.
 use Prim.Native.Nat.{ℕ, zero, suc}
 use mathlib.Core.Bool.{Bool, true, false}
-use mathlib.Core.List.{List, [], _∷_, _++_}
+use mathlib.Core.List.{List, [], _∷_, _++_, flatMap}
 use mathlib.Core.Path.{_≡_, refl}
 use Rattle.octets.specs.Number.{bare}
 use Rattle.octets.specs.declared.Access.{Access}
@@ -13,7 +13,7 @@ use Rattle.admission.specs.declared.Head.{Head}
 use Rattle.admission.specs.declared.Mode.the-variants.{Both, ReadOnly, WriteOnly}
 use Rattle.admission.specs.declared.Verdict.{Verdict}
 use Rattle.admission.specs.declared.Verdict.the-variants.{Allowed, Denied}
-use Rattle.rows.specs.Image.{flat, image}
+use Rattle.rows.specs.Image.{image}
 use Rattle.rows.specs.Keyed.{look, change, without}
 use Rattle.rows.specs.Row.{words}
 use Rattle.rows.proofs.Table.{is, should}
@@ -368,5 +368,5 @@ images =
     ∷ []
 
 pub images-hold : is images ≡ should images
-unfolding admission afterAll allocateStep area arranged bare change fitStep flat freeStep image located look registered total unitManaged without words writeStep
+unfolding admission afterAll allocateStep area arranged bare change fitStep flatMap freeStep image located look registered total unitManaged without words writeStep
 images-hold = refl
