@@ -37,7 +37,8 @@ use Rattle.store.specs.Steps.{registered, heldBy, remainder, content, readStep,
 use Rattle.store.proofs.Valid.{new-valid}
 use Rattle.responder.specs.Respond.{denial, named, none, entriesOf, Result, silent, replied, Out, allocateDone, writeDone, readDone, allReads, bulkReadDone, allTold, resourcesDone, allWrites, bulkWriteDone, act, fitted, firstLines, handled, respond}
 use Rattle.responder.specs.Demands.{final}
-use Rattle.responder.proofs.Starred.{spoken, fresh, plain, locked}
+use Rattle.responder.specs.Entry.{spoken}
+use Rattle.responder.proofs.Starred.{fresh, plain, locked}
 use Rattle.responder.proofs.Kept.{respond-valid}
 use Rattle.responder.proofs.Log.{log-sound}
 use Rattle.responder.proofs.Runs.{commandOf}

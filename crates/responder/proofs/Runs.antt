@@ -20,7 +20,8 @@ use Rattle.store.specs.Model.{State, newUnit, firstKind, total}
 use Rattle.store.specs.Steps.{registered, writeStep, freeStep, allocateStep, readStep}
 use Rattle.responder.specs.Respond.{allocateDone, freeDone, writeDone, readDone, allTold, resourcesDone, allReads, bulkReadDone, allWrites, bulkWriteDone, act, fitted, firstLines, handled, respond}
 use Rattle.responder.specs.Demands.{Command, results}
-use Rattle.responder.proofs.Starred.{spoken, fresh, plain, locked}
+use Rattle.responder.specs.Entry.{spoken}
+use Rattle.responder.proofs.Starred.{fresh, plain, locked}
 
 -- ---- runs
 

@@ -12,18 +12,14 @@ use Rattle.octets.specs.declared.Port.the-variants.{Normal, Secure}
 use Rattle.resources.specs.Resource.{modeKnown}
 use Rattle.requests.specs.Command.{known}
 use Rattle.requests.specs.Request.{requestBody}
-use Rattle.answers.specs.Answer.{answerOctets, answerBody}
+use Rattle.answers.specs.Answer.{answerBody}
 use Rattle.answers.proofs.Worked.{K, k, p}
 use Rattle.admission.specs.Admission.{unitManaged, admission}
 use Rattle.rows.specs.Keyed.{look, change, without}
 use Rattle.store.specs.Model.{State, newUnit, firstKind, total}
 use Rattle.store.specs.Steps.{registered, heldBy, writeStep, freeStep, allocateStep, readStep}
-use Rattle.responder.specs.Respond.{Result, silent, replied, allocateDone, freeDone, writeDone, readDone, allTold, resourcesDone, allReads, bulkReadDone, allWrites, bulkWriteDone, act, fitted, firstLines, handled, respond}
-
--- the octets of a reply; without one there are none
-abbrev pub spoken : Result → List ℕ
-spoken (silent n) = []
-spoken (replied a) = answerOctets a
+use Rattle.responder.specs.Respond.{allocateDone, freeDone, writeDone, readDone, allTold, resourcesDone, allReads, bulkReadDone, allWrites, bulkWriteDone, act, fitted, firstLines, handled, respond}
+use Rattle.responder.specs.Entry.{spoken}
 
 -- "Version 1, both options": a new unit; K registered "with area 1, both modes, no SPF", without a password and with P
 abbrev pub fresh : State

@@ -44,10 +44,14 @@ abbrev pub wordFor : Result → Word
 wordFor (silent n) = refusal n
 wordFor (replied a) = length-is (length (answerOctets a))
 
+-- the octets of an answer; where none is given there are none
+abbrev pub spoken : Result → List ℕ
+spoken (silent n) = []
+spoken (replied a) = answerOctets a
+
 -- the area afterwards: "octets past the answer keep their old content"
 abbrev pub areaFor : Result → List ℕ → List ℕ
-areaFor (silent n) old = old
-areaFor (replied a) old = answerOctets a ++ drop (length (answerOctets a)) old
+areaFor r old = spoken r ++ drop (length (spoken r)) old
 
 -- what is told of a written message; an area of 2,048 octets has room for every reply, so that the other two cases do not come up
 abbrev pub sentOf : Written → Sent
