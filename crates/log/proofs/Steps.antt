@@ -14,13 +14,14 @@ use Rattle.admission.specs.declared.Head.{Head}
 use Rattle.answers.specs.Answer.{answerOctets}
 use Rattle.store.specs.Model.{State, Shows}
 use Rattle.responder.specs.Respond.{Result, silent, replied, respond}
+use Rattle.responder.specs.Entry.{spoken}
 use Rattle.responder.specs.Entry as e
 use Rattle.responder.specs.declared.Reply.{Reply}
 use Rattle.responder.specs.declared.Sent.{Sent}
 use Rattle.responder.specs.declared.Sent.the-variants as s
 use Rattle.log.specs.Text.{badWords, answerLine}
 use Rattle.log.specs.Record.{Front, whole, frontAfter}
-use Rattle.log.specs.Output.{spoken, answerTo, endLines, stopLines}
+use Rattle.log.specs.Output.{answerTo, endLines, stopLines}
 use Rattle.log.specs.Turn.{more, turnedBy, turn}
 use Rattle.log.specs.Entry.{wordOf, used-written, closed, outOf, stepOut, Stepped, Closes, closing, lengthOf}
 use Rattle.log.specs.declared.Turn.{Turn}

@@ -1,6 +1,8 @@
 -- Worked logs, one table with one proof, by computation: document 01's sixteen octets; an empty log; a log cut at every place; every kind of bad record; the longest
--- request; a unit that changes between records; each port; a password; numbers in decimal, octets in hexadecimal and the limit of the count.
+-- request; a unit that changes between records; each port; a password; numbers in decimal, octets in hexadecimal and the limit of the count. And one turn, with more
+-- octets to come or none, and the area for its lines.
 use Prim.Native.Nat.{ℕ}
+use mathlib.Core.Bool.{true, false}
 use mathlib.Core.Path.{_≡_, refl}
 use mathlib.Core.List.{List, [], _∷_, _++_, map}
 use lib.ListN.{take, replicate}
@@ -13,12 +15,15 @@ use Rattle.requests.specs.Request.{requestBody}
 use Rattle.answers.specs.Answer.{answerBody}
 use Rattle.admission.specs.Admission.{unitManaged, admission}
 use Rattle.rows.specs.Keyed.{look, change}
+use Rattle.rows.proofs.Table.{is, should}
 use Rattle.store.specs.Model.{total}
 use Rattle.store.specs.Steps.{registered, allocateStep, writeStep, readStep}
 use Rattle.responder.specs.Respond.{allocateDone, writeDone, readDone, bulkReadDone, act, fitted, firstLines, handled, respond}
 use Rattle.log.specs.Text.{digits, decimal, hexadecimalDigit, hexadecimal, answerLine, worded, badRecord, records}
 use Rattle.log.specs.Record.{front, frontAfter}
 use Rattle.log.specs.Output.{outputWithin, outputFrom, output, firstUnit}
+use Rattle.log.specs.Turn.{Turned, more, answered, ended, turn}
+use Rattle.log.specs.Entry.{Word, closed, refusal, over, stepOut}
 
 -- "For the octets 4D 41 00 00 01 20 4D 41 00 00 05 10 01 07 00 00 the whole output is"
 abbrev pub sixteen : List ℕ
@@ -174,3 +179,52 @@ pub worked :
     × (outputFrom firstUnit 4294967295 [] ≡ records 4294967295)
 unfolding output outputFrom outputWithin frontAfter front decimal digits hexadecimal hexadecimalDigit answerLine worded respond handled firstLines fitted known receive decode heading enclosed requestBody decodeLength decodeNumber number modeKnown act allocateDone writeDone readDone bulkReadDone allocateStep writeStep readStep registered look change admission unitManaged bare total answerBody encode opening octets encodeLength
 worked = (refl, refl, refl, refl, refl, refl, refl, refl)
+
+-- ---- one turn
+
+abbrev turns : List (Turned × Turned)
+turns =
+    -- nothing, while more may come and at the end
+    (turn firstUnit 0 false [], more)
+    ∷ (turn firstUnit 0 true [], ended (recordsDigit 48))
+    -- a record is answered as soon as it is whole, whatever comes behind it
+    ∷ (turn firstUnit 0 false empty, answered firstUnit 5 (answerLine 1 (denied 16)))
+    ∷ (turn firstUnit 0 true empty, answered firstUnit 5 (answerLine 1 (denied 16)))
+    ∷ (turn firstUnit 0 false (take 7 sixteen), answered firstUnit 6 firstLine)
+    -- what is cut is waited for, and bad at the end
+    ∷ (turn firstUnit 0 false (take 5 sixteen), more)
+    ∷ (turn firstUnit 0 true (take 5 sixteen), ended cutFirst)
+    ∷ (turn firstUnit 0 false (0x4d ∷ 0x41 ∷ 0x00 ∷ 0x08 ∷ 0x00 ∷ []), more)
+    -- what is wrong ends the log as soon as it is seen
+    ∷ (turn firstUnit 0 false (0x4c ∷ []), ended cutFirst)
+    ∷ (turn firstUnit 0 false (0x4d ∷ 0x40 ∷ []), ended cutFirst)
+    ∷ (turn firstUnit 0 false (0x4d ∷ 0x41 ∷ 0x02 ∷ []), ended cutFirst)
+    ∷ (turn firstUnit 0 false (0x4d ∷ 0x41 ∷ 0x00 ∷ 0x08 ∷ 0x01 ∷ []), ended cutFirst)
+    -- with 4,294,967,295 answered one octet is a record too many, none is not
+    ∷ (turn firstUnit 4294967295 false (0x4d ∷ []), ended lastLines)
+    ∷ (turn firstUnit 4294967295 false [], more)
+    ∷ (turn firstUnit 4294967294 false (0x4d ∷ []), more)
+    ∷ []
+
+-- room for 4,108 characters from the place on, and one less
+abbrev words : List (Word × Word)
+words =
+    (stepOut firstUnit 0 true [] (replicate 4108 0) 0 .word, closed 10)
+    ∷ (stepOut firstUnit 0 true [] (replicate 4107 0) 0 .word, refusal 300)
+    ∷ (stepOut firstUnit 0 true [] (replicate 4110 0) 2 .word, closed 10)
+    ∷ (stepOut firstUnit 0 true [] (replicate 4109 0) 2 .word, refusal 300)
+    ∷ []
+
+-- lines over the front, the middle and the end of an area; without room it is as it was
+abbrev areas : List (List ℕ × List ℕ)
+areas =
+    (over (1 ∷ 2 ∷ 3 ∷ 4 ∷ 5 ∷ []) 0 (8 ∷ 9 ∷ []), 8 ∷ 9 ∷ 3 ∷ 4 ∷ 5 ∷ [])
+    ∷ (over (1 ∷ 2 ∷ 3 ∷ 4 ∷ 5 ∷ []) 2 (8 ∷ 9 ∷ []), 1 ∷ 2 ∷ 8 ∷ 9 ∷ 5 ∷ [])
+    ∷ (over (1 ∷ 2 ∷ 3 ∷ 4 ∷ 5 ∷ []) 3 (8 ∷ 9 ∷ []), 1 ∷ 2 ∷ 3 ∷ 8 ∷ 9 ∷ [])
+    ∷ (over (1 ∷ 2 ∷ 3 ∷ 4 ∷ 5 ∷ []) 2 [], 1 ∷ 2 ∷ 3 ∷ 4 ∷ 5 ∷ [])
+    ∷ (stepOut firstUnit 0 true [] (replicate 10 7) 0 .area, replicate 10 7)
+    ∷ []
+
+pub turns-hold : (is turns ≡ should turns) × (is words ≡ should words) × (is areas ≡ should areas)
+unfolding stepOut turn frontAfter front decimal digits hexadecimal hexadecimalDigit answerLine worded respond handled firstLines answerBody encode opening octets encodeLength
+turns-hold = (refl, refl, refl)

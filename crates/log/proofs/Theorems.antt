@@ -3,7 +3,7 @@
 use Prim.Native.Nat.{ℕ, zero, suc, _+_, _≤_, _<_}
 use mathlib.Core.Path.{_≡_, refl, sym, ap, _∙_}
 use mathlib.Core.Bool.{Bool, true, false}
-use mathlib.Core.List.{List, [], _∷_, _++_, append-assoc}
+use mathlib.Core.List.{List, [], _∷_, _++_, append-assoc, flatten}
 use native.Mathlib.Omega.{arith}
 use lib.ListN.{length, drop, getD, length-append, length-drop}
 use borrow.Author.Tests.{le-ltb}
@@ -14,7 +14,7 @@ use Rattle.responder.specs.Respond.{replied, handled, respond}
 use Rattle.log.specs.Text.{decimal, badRecord, records}
 use Rattle.log.specs.Output.{outputFrom, output, firstUnit}
 use Rattle.log.specs.Turn.{Turned, more, answered, ended, turn}
-use Rattle.log.specs.Loop.{joined, goesOn, drivenFrom, driven}
+use Rattle.log.specs.Loop.{goesOn, drivenFrom, driven}
 use Rattle.log.proofs.Text.{readOn, digits-read, digits-first}
 use Rattle.log.proofs.Fronts.{look-late}
 use Rattle.log.proofs.Outputs.{unrolled}
@@ -53,33 +53,33 @@ waits false = 1
 
 -- how many turns there can be
 abbrev turnsFor : Bool → List ℕ → List (List ℕ) → ℕ
-turnsFor last held xs = length held + length (joined xs) + length xs + waits last
+turnsFor last held xs = length held + length (flatten xs) + length xs + waits last
 
 -- the loop goes on as the output does
-goes-on : (k : ℕ) (u : State) (n : ℕ) (last : Bool) (held : List ℕ) (xs : List (List ℕ)) (t : Turned) → Means u n last held (joined xs) t → (last ≡ true → xs ≡ [])
+goes-on : (k : ℕ) (u : State) (n : ℕ) (last : Bool) (held : List ℕ) (xs : List (List ℕ)) (t : Turned) → Means u n last held (flatten xs) t → (last ≡ true → xs ≡ [])
     → turnsFor last held xs < suc k
-    → ((v : State) (m : ℕ) (l : Bool) (g : List ℕ) (ys : List (List ℕ)) → (l ≡ true → ys ≡ []) → turnsFor l g ys < k → drivenFrom k v m l g ys ≡ outputFrom v m (g ++ joined ys))
-    → goesOn (drivenFrom k) u n last held xs t ≡ outputFrom u n (held ++ joined xs)
-unfolding joined
-goes-on k u n last held xs (ended lines) m z h f = sym (m (λ e. ap joined (z e)))
+    → ((v : State) (m : ℕ) (l : Bool) (g : List ℕ) (ys : List (List ℕ)) → (l ≡ true → ys ≡ []) → turnsFor l g ys < k → drivenFrom k v m l g ys ≡ outputFrom v m (g ++ flatten ys))
+    → goesOn (drivenFrom k) u n last held xs t ≡ outputFrom u n (held ++ flatten xs)
+unfolding flatten
+goes-on k u n last held xs (ended lines) m z h f = sym (m (λ e. ap flatten (z e)))
 goes-on k u n last held xs (answered v used line) m z h f =
     ap (λ (l : List ℕ). line ++ l) (f v (suc n) last (drop used held) xs z (omega (arith, length-drop used held, m .1, m .2))) ∙ sym (m .3)
 goes-on k u n last held [] more m z h f =
     let w : waits last ≡ 1 = ap waits (m .0) in
     f u n true held [] (λ e. refl) (omega arith)
 goes-on k u n last held (y ∷ ys) more m z h f =
-    f u n last (held ++ y) ys (λ e. let q : _≡_ {A = ℕ} 0 1 = cc (m .0) in absurd (omega arith)) (omega (arith, length-append held y, length-append y (joined ys)))
-    ∙ ap (outputFrom u n) (append-assoc held y (joined ys))
+    f u n last (held ++ y) ys (λ e. let q : _≡_ {A = ℕ} 0 1 = cc (m .0) in absurd (omega arith)) (omega (arith, length-append held y, length-append y (flatten ys)))
+    ∙ ap (outputFrom u n) (append-assoc held y (flatten ys))
 
 driven-output : (k : ℕ) (u : State) (n : ℕ) (last : Bool) (held : List ℕ) (xs : List (List ℕ)) → (last ≡ true → xs ≡ []) → turnsFor last held xs < k
-    → drivenFrom k u n last held xs ≡ outputFrom u n (held ++ joined xs)
+    → drivenFrom k u n last held xs ≡ outputFrom u n (held ++ flatten xs)
 unfolding drivenFrom
 driven-output zero u n last held xs z h = absurd (omega arith)
 driven-output (suc k) u n last held xs z h =
-    goes-on k u n last held xs (turn u n last held) (turn-means u n held (joined xs) last) z h (λ v m l g ys. driven-output k v m l g ys)
+    goes-on k u n last held xs (turn u n last held) (turn-means u n held (flatten xs) last) z h (λ v m l g ys. driven-output k v m l g ys)
 
 -- however the input is cut into pieces, the loop prints the output for the whole of it, if it has a turn for each octet and each piece and two more
-pub pieces : (turns : ℕ) (xs : List (List ℕ)) → length (joined xs) + length xs + 2 ≤ turns → driven turns xs ≡ output (joined xs)
+pub pieces : (turns : ℕ) (xs : List (List ℕ)) → length (flatten xs) + length xs + 2 ≤ turns → driven turns xs ≡ output (flatten xs)
 unfolding driven output
 pieces turns xs h = driven-output turns firstUnit 0 false [] xs (λ e. let z : _≡_ {A = ℕ} 0 1 = cc in absurd (omega arith)) (omega arith)
 

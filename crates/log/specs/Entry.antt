@@ -24,6 +24,7 @@ pub data Word : Type 0 where
   closed : ℕ → Word
   refusal : ℕ → Word
 
+-- what an answer of step says; without room the number is 300
 abbrev pub wordOf : Turn → Word
 wordOf t.More = wants-more
 wordOf (t.Answered used written) = used-written used written
@@ -40,6 +41,7 @@ pub record Out : Type 0 where
   pub area : List ℕ
   pub unit : State
 
+-- the same of a turn, whose lines go into the area from a place on
 abbrev pub outOf : State → List ℕ → ℕ → Turned → Out
 outOf u old at more = record { word = wants-more; area = old; unit = u }
 outOf u old at (answered v used line) = record { word = used-written used (length line); area = over old at line; unit = v }
@@ -73,6 +75,7 @@ lookIn s l.Wrong = wrong
 lookIn s l.Cut = cut
 lookIn s (l.Whole port len) = whole port (take len (drop 5 s)) (drop (5 + len) s)
 
+-- the request lies within the octets, and is "of at most 2,048 octets"
 abbrev pub lookPlace : List ℕ → Seen → Type 0
 lookPlace s l.Nothing = Unit {0}
 lookPlace s l.Wrong = Unit {0}

@@ -8,11 +8,6 @@ use Rattle.store.specs.Model.{State}
 use Rattle.log.specs.Output.{firstUnit}
 use Rattle.log.specs.Turn.{Turned, more, answered, ended, turn}
 
--- the input that was cut into pieces
-unfoldable pub joined : List (List ℕ) → List ℕ
-joined [] = []
-joined (x ∷ xs) = x ++ joined xs
-
 -- how the loop goes on after a turn: with the unit, the number answered, whether nothing comes behind, what is held, and the pieces to come
 abbrev pub goesOn : (State → ℕ → Bool → List ℕ → List (List ℕ) → List ℕ) → State → ℕ → Bool → List ℕ → List (List ℕ) → Turned → List ℕ
 goesOn onward u n last held xs (ended lines) = lines

@@ -4,21 +4,17 @@ use mathlib.Core.Bool.{true}
 use mathlib.Core.List.{List, [], _++_}
 use lib.ListN.{length}
 use Rattle.octets.specs.declared.Port.{Port}
-use Rattle.answers.specs.Answer.{answerOctets}
 use Rattle.store.specs.Model.{State, newUnit, firstKind}
-use Rattle.responder.specs.Respond.{Result, silent, replied, respond}
+use Rattle.responder.specs.Respond.{respond}
+use Rattle.responder.specs.Entry.{spoken}
 use Rattle.log.specs.Text.{answerLine, badRecord, records}
 use Rattle.log.specs.Record.{Front, nothing, wrong, cut, whole, frontAfter}
 
--- the octets of an answer; an area of 2,048 octets is never too short, so that there always is one (proofs/Theorems, `always-answered`)
-abbrev pub spoken : Result → List ℕ
-spoken (silent n) = []
-spoken (replied a) = answerOctets a
-
--- the unit's answer to a record's request, and the unit afterwards
+-- the unit's answer to a record's request; an area of 2,048 octets is never too short, so that there always is one (proofs/Theorems, `always-answered`)
 abbrev pub answerTo : State → Port → List ℕ → List ℕ
 answerTo u p r = spoken (respond u p r 2048 .result)
 
+-- and the unit afterwards
 abbrev pub unitAfter : State → Port → List ℕ → State
 unitAfter u p r = respond u p r 2048 .unit
 
@@ -50,5 +46,6 @@ outputFrom u n s = outputWithin (length s) u n s
 abbrev pub firstUnit : State
 firstUnit = newUnit firstKind 1 true true
 
+-- the whole output for the octets on standard input
 unfoldable pub output : List ℕ → List ℕ
 output s = outputFrom firstUnit 0 s

@@ -8,6 +8,7 @@ use Rattle.octets.specs.Reading.{pick}
 use Rattle.octets.specs.declared.Port.{Port}
 use Rattle.octets.specs.declared.Port.the-variants.{Normal, Secure}
 
+-- what stands at the front of octets
 pub data Front : Type 0 where
   -- no octet at all
   nothing : Front
@@ -22,7 +23,7 @@ pub data Front : Type 0 where
 abbrev pub portOf : ℕ → Port
 portOf n = pick (eqb n 0) Normal Secure
 
--- the request, behind its length
+-- the request, behind its length: "a length above 2,048" is wrong, and a request that is not all there is cut
 abbrev pub request : Port → ℕ → List ℕ → Front
 request p n s = pick (ltb 2048 n) wrong (pick (ltb (length s) n) cut (whole p (take n s) (drop n s)))
 
@@ -32,15 +33,17 @@ requestLength p [] = cut
 requestLength p (a ∷ []) = cut
 requestLength p (a ∷ b ∷ s) = request p (a * 256 + b) s
 
+-- the port and what is behind it: "a port above 1" is wrong
 abbrev pub port : List ℕ → Front
 port [] = cut
 port (a ∷ s) = pick (ltb 1 a) wrong (requestLength (portOf a) s)
 
--- "the two-octet mark 4D 41"
+-- the second octet of the mark, and what is behind it
 abbrev pub secondMark : List ℕ → Front
 secondMark [] = cut
 secondMark (a ∷ s) = pick (eqb a 0x41) (port s) wrong
 
+-- "the two-octet mark 4D 41", and what is behind it: "A wrong mark" is wrong, whatever follows
 unfoldable pub front : List ℕ → Front
 front [] = nothing
 front (a ∷ s) = pick (eqb a 0x4d) (secondMark s) wrong

@@ -22,15 +22,18 @@ hexadecimalDigit n = pick (ltb n 10) (48 + n) (55 + n)
 abbrev pub pair : ℕ → List ℕ
 pair x = hexadecimalDigit (x / 16) ∷ hexadecimalDigit (x % 16) ∷ []
 
+-- octets one after another
 unfoldable pub hexadecimal : List ℕ → List ℕ
 hexadecimal [] = []
 hexadecimal (x ∷ s) = pair x ++ hexadecimal s
 
 -- ---- lines
 
+-- "a space"
 abbrev pub space : List ℕ
 space = 32 ∷ []
 
+-- the end of a line
 abbrev pub lineEnd : List ℕ
 lineEnd = 10 ∷ []
 
@@ -42,10 +45,11 @@ answerLine n answer = decimal n ++ space ++ hexadecimal answer ++ lineEnd
 unfoldable pub worded : List ℕ → ℕ → List ℕ
 worded words n = words ++ decimal n ++ lineEnd
 
--- `bad record` and `records`, each with its space
+-- `bad record` with its space
 abbrev pub badWords : List ℕ
 badWords = 98 ∷ 97 ∷ 100 ∷ 32 ∷ 114 ∷ 101 ∷ 99 ∷ 111 ∷ 114 ∷ 100 ∷ 32 ∷ []
 
+-- `records` with its space
 abbrev pub recordsWords : List ℕ
 recordsWords = 114 ∷ 101 ∷ 99 ∷ 111 ∷ 114 ∷ 100 ∷ 115 ∷ 32 ∷ []
 

@@ -9,6 +9,7 @@ use Rattle.log.specs.Text.{answerLine}
 use Rattle.log.specs.Record.{Front, nothing, wrong, cut, whole, frontAfter}
 use Rattle.log.specs.Output.{answerTo, unitAfter, endLines, stopLines}
 
+-- what a turn comes to
 pub data Turned : Type 0 where
   -- nothing can be said before more octets come
   more : Turned
@@ -17,7 +18,7 @@ pub data Turned : Type 0 where
   -- reading stops, with the closing lines
   ended : List ℕ → Turned
 
--- a record's mark, port and length are five octets
+-- by what stands at the front: nothing is waited for once it is certain. A record's mark, port and length are five octets
 abbrev pub turnedBy : State → ℕ → Bool → Front → Turned
 turnedBy u n last nothing = pick last (ended (endLines n)) more
 turnedBy u n last wrong = ended (stopLines n)
