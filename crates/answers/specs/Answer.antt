@@ -30,6 +30,7 @@ pub data Body : Type 0 where
   bulkRead : List Held → Body
   bulkWrite : List Keyed → Body
 
+-- the operation that it answers
 abbrev pub commandOf : Body → Command
 commandOf (resourceInformation x) = c.resourceInformation
 commandOf (allocate k) = c.allocate
@@ -41,6 +42,7 @@ commandOf (bulkWrite ks) = c.bulkWrite
 
 -- ---- the layout of each body
 
+-- its octets: "Bulk write answers list the tags written; bulk read answers list memory data."
 abbrev pub bodyPut : Body → List ℕ
 bodyPut (resourceInformation x) = resources .put x
 bodyPut (allocate k) = key f.Plain .put k
@@ -50,6 +52,7 @@ bodyPut (write k) = key f.Plain .put k
 bodyPut (bulkRead hs) = listOf (memory f.Plain) .put hs
 bodyPut (bulkWrite ks) = listOf (key f.Plain) .put ks
 
+-- each of its values fits its field
 abbrev pub bodyFits : Body → Bool
 bodyFits (resourceInformation x) = resources .fits x
 bodyFits (allocate k) = key f.Plain .fits k
@@ -59,6 +62,7 @@ bodyFits (write k) = key f.Plain .fits k
 bodyFits (bulkRead hs) = listOf (memory f.Plain) .fits hs
 bodyFits (bulkWrite ks) = listOf (key f.Plain) .fits ks
 
+-- the answer to an operation, read from the front
 abbrev pub bodyGet : Command → List ℕ → Read Body
 bodyGet c.resourceInformation l = andThen (resources .get l) (λ x r. ok (resourceInformation x) r)
 bodyGet c.allocate l = andThen (key f.Plain .get l) (λ k r. ok (allocate k) r)
@@ -68,31 +72,34 @@ bodyGet c.write l = andThen (key f.Plain .get l) (λ k r. ok (write k) r)
 bodyGet c.bulkRead l = andThen (listOf (memory f.Plain) .get l) (λ hs r. ok (bulkRead hs) r)
 bodyGet c.bulkWrite l = andThen (listOf (key f.Plain) .get l) (λ ks r. ok (bulkWrite ks) r)
 
+-- the layout of the answer to an operation
 abbrev pub bodyOf : Command → Layout Body
 bodyOf x = record { put = bodyPut; get = bodyGet x; fits = λ b. eqb (commandNumber (commandOf b)) (commandNumber x) && bodyFits b }
 
--- the answer's type
+-- "The answer's type is the request's plus 128"
 abbrev pub answerKind : Command → Form → ℕ
 answerKind x w = kindOf x w + 128
 
--- the body of each answer's type
+-- the layout of the body of each answer's type; a type that answers none of the 13 has none
 unfoldable pub answerBody : ℕ → Layout Body
 answerBody kind = allowed (leb 128 kind && known (kind - 128)) (bodyOf (commandAt (kind - 128)))
 
 -- ---- what is read and written
 
+-- what the unit sends: an answer, or a denial
 pub data Answer : Type 0 where
   accepted : Message Body → Answer
   denied : Denial → Answer
 
--- a denial is told by its second octet
+-- a denial is told by its second octet, 255
 abbrev pub isDenial : List ℕ → Bool
 isDenial s = eqb (getD s 1 0) 255
 
+-- "a denial (any status, supplement up to 127 octets)" or "an answer to one of the 13 operation types in the layouts above"
 abbrev pub decodeAnswer : List ℕ → Read Answer
 decodeAnswer s = pick (isDenial s) (andThen (atEnd (denial .get s)) (λ d r. ok (denied d) r)) (andThen (decode answerBody s) (λ m r. ok (accepted m) r))
 
--- the answer that octets are: at most 2,048 of them
+-- the answer that octets are; a fault "if the octets are over 2,048"
 unfoldable pub answerRead : List ℕ → Read Answer
 answerRead s = pick (ltb 2048 (length s)) (bad Other) (decodeAnswer s)
 
@@ -100,10 +107,12 @@ answerRead s = pick (ltb 2048 (length s)) (bad Other) (decodeAnswer s)
 abbrev pub answer : ℕ → Form → Body → Message Body
 answer version w b = record { version = version; kind = answerKind (commandOf b) w; body = b }
 
+-- the octets of an answer
 abbrev pub answerOctets : Answer → List ℕ
 answerOctets (accepted m) = encode answerBody m
 answerOctets (denied d) = denial .put d
 
+-- an answer that may be written
 abbrev pub answerWritable : Answer → Bool
 answerWritable (accepted m) = writable answerBody m
 answerWritable (denied d) = denial .fits d
@@ -112,11 +121,12 @@ answerWritable (denied d) = denial .fits d
 abbrev pub answerSent : Answer → List ℕ → Outcome × List ℕ
 answerSent a old = written (answerWritable a) (answerOctets a) old
 
--- resource information and bulk answers of the lists that slices describe
+-- resource information of the tags that slices describe, written into an area
 abbrev pub resourceInformationSent : ℕ → Room → List ℕ → List ℕ → List ℕ → List ℕ → List ℕ → Outcome × List ℕ
 resourceInformationSent version x tags modes held sizes old =
     described (alongside tags modes held sizes) (answerSent (accepted (answer version f.Plain (resourceInformation (x, resourcesOf tags modes held sizes)))) old) old
 
+-- a bulk read answer of the memory data that slices describe, written into an area
 abbrev pub bulkReadSent : Form → ℕ → List ℕ → List ℕ → List ℕ → List ℕ → List ℕ → Outcome × List ℕ
 bulkReadSent w version tags starts lengths octets old =
     described (belong f.Plain tags [] starts lengths octets) (answerSent (accepted (answer version w (bulkRead (heldOf f.Plain tags [] starts lengths octets)))) old) old

@@ -40,14 +40,15 @@ formFor false = f.Plain
 
 -- ---- what is refused before a unit is looked at: a number that is too great, then slices of other lengths than a unit's
 
+-- the number of what is too great; then 300, for slices that are no unit's
 abbrev pub barredBy : Bool → ℕ → Slices → Line
 barredBy high n x = pick high (number n) (pick (lent x) none (number 300))
 
--- "301 for a version above 15"
+-- "Start gives 301 for a version above 15 and makes no unit."
 abbrev pub startLine : ℕ → Slices → Line
 startLine version x = barredBy (ltb 15 version) 301 x
 
--- a port above 1
+-- "a port above 1"
 abbrev pub portLine : ℕ → Slices → Line
 portLine port x = barredBy (ltb 1 port) 16 x
 
@@ -70,6 +71,7 @@ pub record Answers (o : Out) (r : ℤ) (area area′ : List ℕ) (new : Slices) 
   pub written : area′ ≡ areaFor (o .result) area
   pub left : Holds (o .unit) new
 
+-- a refusal touches nothing; otherwise the unit is asked
 pub record Responds (port : ℕ) (request : List ℕ) (old : Slices) (area : List ℕ) (r : ℤ) (new : Slices) (area′ : List ℕ) : Type 0 where
   pub barred : (n : ℕ) → portLine port old ≡ number n → (r ≡ result (refused n)) × (new ≡ old) × (area′ ≡ area)
   pub answered : portLine port old ≡ none → (u : State) → Holds u old → Answers (respond u (portOf port) request (length area)) r area area′ new
@@ -81,6 +83,7 @@ pub record Does (step : Step) (r : ℤ) (new : Slices) : Type 0 where
   pub says : r ≡ result (judged (step .answer))
   pub left : Holds (step .unit) new
 
+-- "A refusal of either leaves all as it was."
 pub record Fits (mode : ℕ) (step : State → Step) (old : Slices) (r : ℤ) (new : Slices) : Type 0 where
   pub barred : (n : ℕ) → modeLine mode old ≡ number n → (r ≡ result (refused n)) × (new ≡ old)
   pub fitted : modeLine mode old ≡ none → (u : State) → Holds u old → Does (step u) r new

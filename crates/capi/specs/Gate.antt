@@ -38,13 +38,16 @@ filled n words old = pick (ltb (length old) (length words)) (refused 300, old) (
 
 -- ---- an answer: type, version, status, tag, first place, length or count, and what a unit can take. 0 where an answer has no such word
 
+-- the words of an answer that says nothing of room
 abbrev pub roomless : ℕ → ℕ → ℕ → ℕ → ℕ → ℕ → List ℕ
 roomless kind version status tag start count = kind ∷ version ∷ status ∷ tag ∷ start ∷ count ∷ 0 ∷ 0 ∷ 0 ∷ 0 ∷ 0 ∷ 0 ∷ []
 
+-- those of resource information
 abbrev pub roomWords : ℕ → ℕ → ℕ → Room → List ℕ
 roomWords version start count x =
     128 ∷ version ∷ 0 ∷ 0 ∷ start ∷ count ∷ x .largest ∷ x .tags ∷ x .octets ∷ x .«volatile_tags» ∷ x .«volatile_octets» ∷ x .entries ∷ []
 
+-- those of each answer
 abbrev pub givenWords : ℕ → Given → List ℕ
 givenWords version (g.Resources x list) = roomWords version (list .start) (list .count) x
 givenWords version (g.Allocate w tag) = roomless (givenKind (g.Allocate w tag)) version 0 tag 0 0
@@ -54,7 +57,7 @@ givenWords version (g.Write w tag) = roomless (givenKind (g.Write w tag)) versio
 givenWords version (g.BulkRead w list) = roomless (givenKind (g.BulkRead w list)) version 0 0 (list .start) (list .count)
 givenWords version (g.BulkWrite w list) = roomless (givenKind (g.BulkWrite w list)) version 0 0 (list .start) (list .count)
 
--- the answer's type, and 255 for a denial
+-- the answer's type is told, and 255 for a denial
 abbrev pub replyFilled : Reply → List ℕ → Outcome × List ℕ
 replyFilled (r.Accepted version x) old = filled (givenKind x) (givenWords version x) old
 replyFilled (r.Denied version status p) old = filled 255 (roomless 255 version status 0 (p .start) (p .len)) old
@@ -66,8 +69,9 @@ pub record ReadsAnswer (s old : List ℕ) (r : ℤ) (new : List ℕ) : Type 0 wh
   pub understood : Understood s reply
   pub gives : Gives (replyFilled reply old) r new
 
--- ---- an entry of a list. "It gives 16 for reading exactly if the octets are over 2,048": no list stands in such octets
+-- ---- an entry of a list
 
+-- "if the octets are over 2,048", 16: no list stands in such octets
 abbrev pub short : List ℕ → Outcome × List ℕ → List ℕ → Outcome × List ℕ
 short s o old = pick (ltb 2048 (length s)) (refused 16, old) o
 
@@ -76,6 +80,7 @@ abbrev pub keyFilled : Key → List ℕ → Outcome × List ℕ
 keyFilled (k.Value access tag next) old = filled next (tag ∷ []) old
 keyFilled k.Bad old = (refused 16, old)
 
+-- the one tag that stands at a place
 pub record ReadsTag (s : List ℕ) (at : ℕ) (old : List ℕ) (r : ℤ) (new : List ℕ) : Type 0 where
   pub entry : Key
   pub stands : KeyAt s at Plain entry
@@ -86,6 +91,7 @@ abbrev pub memoryFilled : Memory → List ℕ → Outcome × List ℕ
 memoryFilled (m.Value access tag p next) old = filled next (tag ∷ p .start ∷ p .len ∷ []) old
 memoryFilled (m.Bad f) old = (refused (faultNumber f), old)
 
+-- the one memory data that stands at a place
 pub record ReadsMemory (s : List ℕ) (at : ℕ) (old : List ℕ) (r : ℤ) (new : List ℕ) : Type 0 where
   pub entry : Memory
   pub stands : MemoryAt s at Plain entry
@@ -96,6 +102,7 @@ abbrev pub resourceFilled : ResourceRead → List ℕ → Outcome × List ℕ
 resourceFilled (e.Value x next) old = filled next (x .tag ∷ x .mode ∷ x .held ∷ x .size ∷ []) old
 resourceFilled e.Bad old = (refused 16, old)
 
+-- what is told of the one tag at a place
 pub record ReadsResource (s : List ℕ) (at : ℕ) (old : List ℕ) (r : ℤ) (new : List ℕ) : Type 0 where
   pub entry : ResourceRead
   pub stands : ResourceAt s at entry

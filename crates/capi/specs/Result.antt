@@ -11,6 +11,7 @@ use Rattle.responder.specs.Entry.{Word, length-is, refusal}
 use Rattle.responder.specs.declared.Sent.{Sent}
 use Rattle.responder.specs.declared.Sent.the-variants as s
 
+-- what there is to tell, or minus the number of the refusal
 abbrev pub result : Outcome → ℤ
 result (done n) = pos n
 result (refused n) = negℤ (pos n)
@@ -31,6 +32,7 @@ writtenShort (w.Done n) = n ≤ 2048
 writtenShort w.Refused = Unit {0}
 writtenShort w.NoRoom = Unit {0}
 
+-- nor any answer
 abbrev pub sentShort : Sent → Type 0
 sentShort (s.Answer n) = n ≤ 2048
 sentShort s.NoRoom = Unit {0}

@@ -9,11 +9,13 @@ use lib.Dec.{eqb}
 use Rattle.admission.specs.declared.Head.{Head}
 use Rattle.store.specs.Model.{State, firstKind, headOf, Shows}
 
+-- the three slices
 pub record Slices : Type 0 where
   pub head : List ℕ
   pub table : List ℕ
   pub memory : List ℕ
 
+-- three slices, taken together
 abbrev pub slices : List ℕ → List ℕ → List ℕ → Slices
 slices head table memory = record { head = head; table = table; memory = memory }
 
@@ -21,6 +23,7 @@ slices head table memory = record { head = head; table = table; memory = memory 
 abbrev pub lent : Slices → Bool
 lent x = eqb (length (x .head)) 5 && eqb (length (x .table)) 256 && eqb (length (x .memory)) 8192
 
+-- an option's word
 abbrev pub flag : Bool → ℕ
 flag true = 1
 flag false = 0

@@ -22,13 +22,16 @@ unfoldable pub agrees : Form → ℕ → ℕ → Bool
 agrees f.Plain tags passwords = eqb passwords 0
 agrees f.Password tags passwords = eqb passwords tags
 
+-- the access of entry i
 abbrev pub accessAt : Form → List ℕ → ℕ → Access
 accessAt f.Plain passwords i = a.Plain
 accessAt f.Password passwords i = a.Password (getD passwords i 0)
 
+-- the tag of entry i, and its access
 abbrev pub keyAt : Form → List ℕ → List ℕ → ℕ → Keyed
 keyAt w tags passwords i = (getD tags i 0, accessAt w passwords i)
 
+-- the entries, one for each tag
 abbrev pub keysOf : Form → List ℕ → List ℕ → List Keyed
 keysOf w tags passwords = listed (keyAt w tags passwords) (length tags)
 
@@ -36,9 +39,11 @@ keysOf w tags passwords = listed (keyAt w tags passwords) (length tags)
 abbrev pub heldAt : Form → List ℕ → List ℕ → List ℕ → List ℕ → List ℕ → ℕ → Held
 heldAt w tags passwords starts lengths octets i = (keyAt w tags passwords i, take (getD lengths i 0) (drop (getD starts i 0) octets))
 
+-- the entries, one for each tag
 abbrev pub heldOf : Form → List ℕ → List ℕ → List ℕ → List ℕ → List ℕ → List Held
 heldOf w tags passwords starts lengths octets = listed (heldAt w tags passwords starts lengths octets) (length tags)
 
+-- the part of entry i lies within the octets
 abbrev pub insideAt : List ℕ → List ℕ → List ℕ → ℕ → Bool
 insideAt starts lengths octets i = leb (getD starts i 0 + getD lengths i 0) (length octets)
 
@@ -47,11 +52,13 @@ unfoldable pub belong : Form → List ℕ → List ℕ → List ℕ → List ℕ
 belong w tags passwords starts lengths octets =
     agrees w (length tags) (length passwords) && eqb (length starts) (length tags) && eqb (length lengths) (length tags) && every (insideAt starts lengths octets) (length tags)
 
--- ---- what the writers of lists do to an area
+-- ---- the writers
 
+-- what the writer of a list of tags does to an area
 unfoldable pub keysSent : Form → ℕ → ℕ → List ℕ → List ℕ → List ℕ → Outcome × List ℕ
 keysSent w version kind tags passwords old = described (agrees w (length tags) (length passwords)) (sent (listOf (key w)) version kind (keysOf w tags passwords) old) old
 
+-- what the writer of a list of memory data does to an area
 unfoldable pub memoriesSent : Form → ℕ → ℕ → List ℕ → List ℕ → List ℕ → List ℕ → List ℕ → List ℕ → Outcome × List ℕ
 memoriesSent w version kind tags passwords starts lengths octets old =
     described (belong w tags passwords starts lengths octets) (sent (listOf (memory w)) version kind (heldOf w tags passwords starts lengths octets) old) old

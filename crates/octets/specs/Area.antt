@@ -16,10 +16,11 @@ use Rattle.octets.specs.declared.Written.the-variants.{Done, Refused, No
 unfoldable pub laid : List ℕ → ℕ → List ℕ → List ℕ
 laid old at v = pick (leb (at + length v) (length old)) (sets old at v) old
 
--- where the next field starts
+-- where the next field starts; where there was no room, the same place
 unfoldable pub past : List ℕ → ℕ → List ℕ → ℕ
 past old at v = pick (leb (at + length v) (length old)) (at + length v) at
 
+-- what a writer of a field leaves: the area, and where the next field starts
 pub record Laid (old : List ℕ) (at : ℕ) (v new : List ℕ) (next : ℕ) : Type 0 where
   pub holds : new ≡ laid old at v
   pub ends : next ≡ past old at v
@@ -34,12 +35,14 @@ pub data Outcome : Type 0 where
   done : ℕ → Outcome
   refused : ℕ → Outcome
 
+-- the numbers: "gives 16 for writing exactly if" no such message may be written; "An area too short for the message gives 300"
 abbrev pub outcome : Written → Outcome
 outcome (Done n) = done n
 outcome Refused = refused 16
 outcome NoRoom = refused 300
 
--- the answer and the area afterwards, for a message that may be written or not
+-- the answer and the area afterwards: 16 for a message that may not be written, then 300, "also writing nothing, and that test comes second";
+-- what lies past the message stays
 unfoldable pub written : Bool → List ℕ → List ℕ → Outcome × List ℕ
 written true m old = pick (ltb (length old) (length m)) (refused 300, old) (done (length m), m ++ drop (length m) old)
 written false m old = (refused 16, old)

@@ -15,14 +15,16 @@ use Rattle.octets.specs.declared.Fault.the-variants.{Other}
 
 -- ---- writing
 
--- the octets before a body of n octets
+-- "version in the high four bits with four zero fill bits; command type 1; operation type; security profile 0; length of the body":
+-- what stands before a body of n octets
 unfoldable pub opening : ℕ → ℕ → ℕ → List ℕ
 opening version kind n = (version * 16) ∷ 1 ∷ kind ∷ 0 ∷ encodeLength n
 
+-- and the body behind it
 abbrev pub framed : ℕ → ℕ → List ℕ → List ℕ
 framed version kind body = opening version kind (length body) ++ body
 
--- a message of that version, with a body of n octets, may be written
+-- a message of that version, with a body of n octets, may be written: not "if the version is above 15", nor if "the message would exceed 2,048 octets"
 unfoldable pub openable : ℕ → ℕ → ℕ → Bool
 openable version kind n = ltb version 16 && leb (length (opening version kind n) + n) 2048
 
@@ -39,31 +41,34 @@ sent L version kind a old = written (openable version kind (length (L .put a)) &
 
 -- ---- reading
 
--- the operation type, behind the command type
+-- the operation type: "operation type absent" is a fault
 abbrev pub typed : ℕ → List ℕ → Read (ℕ × ℕ)
 typed version [] = bad Other
 typed version (kind ∷ l) = ok (version, kind) l
 
+-- the command type before it: "command type absent or not 1" is a fault
 abbrev pub commanded : ℕ → List ℕ → Read (ℕ × ℕ)
 commanded version [] = bad Other
 commanded version (c ∷ l) = pick (eqb c 1) (typed version l) (bad Other)
 
--- version and operation type
+-- version and operation type: "request empty" and "fill bits not zero" are faults
 unfoldable pub heading : List ℕ → Read (ℕ × ℕ)
 heading [] = bad Other
 heading (v ∷ l) = pick (eqb (fillPart v) 0) (commanded (versionPart v) l) (bad Other)
 
--- profile 0, and a length that is exactly the rest's
+-- what stands between operation type and body: "security profile absent or not 0; a length in another form; the body is not exactly the rest" are faults
 unfoldable pub enclosed : List ℕ → Read (Unit {0})
 enclosed [] = bad Other
 enclosed (p ∷ l) = pick (eqb p 0) (andThen (decodeLength l) (λ n r. pick (eqb n (length r)) (ok tt r) (bad Other))) (bad Other)
 
+-- a message: its version, its operation type, its body
 pub record Message (A : Type 0) : Type 0 where
   pub version : ℕ
   pub kind : ℕ
   pub body : A
 
 module _ {A : Type 0} where
+  -- the body, by its operation type, to the last octet
   abbrev pub bodied : (ℕ → Layout A) → ℕ × ℕ → List ℕ → Read (Message A)
   bodied kinds h l = andThen (atEnd (kinds (h .1) .get l)) (λ b r. ok (record { version = h .0; kind = h .1; body = b }) r)
 
@@ -79,6 +84,6 @@ module _ {A : Type 0} where
   unfoldable pub writable : (ℕ → Layout A) → Message A → Bool
   writable kinds m = openable (m .version) (m .kind) (length (kinds (m .kind) .put (m .body))) && kinds (m .kind) .fits (m .body)
 
-  -- what octets are read as: at most 2,048 of them
+  -- what octets are read as; a fault "if the octets are over 2,048"
   unfoldable pub receive : (ℕ → Layout A) → List ℕ → Read (Message A)
   receive kinds s = pick (ltb 2048 (length s)) (bad Other) (decode kinds s)

@@ -10,16 +10,17 @@ use Rattle.octets.specs.Length.{encodeLength, decodeLength}
 use Rattle.octets.specs.Number.{octets, decodeNumber}
 use Rattle.octets.specs.declared.Fault.the-variants.{Other}
 
+-- a field: how a value is written, how one is read from the front of the octets, and which values it can hold
 pub record Layout (A : Type 0) : Type 1 where
   pub put : A → List ℕ
   pub get : List ℕ → Read A
   pub fits : A → Bool
 
--- a number of n octets, high part first
+-- a number of n octets, high part first; from 256 ^ n on it "is too great for its field"
 abbrev pub numeral : ℕ → Layout ℕ
 numeral n = record { put = octets n; get = decodeNumber n; fits = λ x. ltb x (256 ^ n) }
 
--- a length or a list count
+-- "Lengths and list counts: 0 to 127 in one octet; 128 to 16,383 in two"
 abbrev pub size : Layout ℕ
 size = record { put = encodeLength; get = decodeLength; fits = λ n. ltb n 16384 }
 
@@ -27,7 +28,7 @@ size = record { put = encodeLength; get = decodeLength; fits = λ n. ltb n 16384
 abbrev pub takeRaw : ℕ → List ℕ → Read (List ℕ)
 takeRaw n l = pick (leb n (length l)) (ok (take n l) (drop n l)) (bad Other)
 
--- a length, and as many octets
+-- a length, and as many octets: the end of "tag, length, data"
 abbrev pub data' : Layout (List ℕ)
 data' = record { put = λ d. encodeLength (length d) ++ d; get = λ l. andThen (decodeLength l) takeRaw; fits = λ d. ltb (length d) 16384 }
 
@@ -40,7 +41,7 @@ module _ {A : Type 0} where
   abbrev pub allowed : Bool → Layout A → Layout A
   allowed b L = record { put = L .put; get = λ l. pick b (L .get l) (bad Other); fits = λ a. b && L .fits a }
 
-  -- only values that pass a test: reserved bits, mode codes
+  -- only values that pass a test: "any other value there does not decode"
   abbrev pub only : (A → Bool) → Layout A → Layout A
   only p L = record {
     put = L .put;
@@ -48,20 +49,22 @@ module _ {A : Type 0} where
     fits = λ a. L .fits a && p a;
   }
 
-  -- n entries
+  -- n entries, one after the other
   abbrev pub entries : Layout A → ℕ → List ℕ → Read (List A)
   entries L zero l = ok [] l
   entries L (suc n) l = andThen (L .get l) (λ a r. andThen (entries L n r) (λ es t. ok (a ∷ es) t))
 
+  -- the octets of entries, one after the other
   abbrev pub putAll : Layout A → List A → List ℕ
   putAll L [] = []
   putAll L (a ∷ es) = L .put a ++ putAll L es
 
+  -- the field can hold every entry
   abbrev pub fitAll : Layout A → List A → Bool
   fitAll L [] = true
   fitAll L (a ∷ es) = L .fits a && fitAll L es
 
-  -- a count, and as many entries
+  -- "A list is its count and then its entries."
   abbrev pub listOf : Layout A → Layout (List A)
   listOf L = record {
     put = λ es. encodeLength (length es) ++ putAll L es;

@@ -11,11 +11,12 @@ use Rattle.octets.specs.declared.Fault.the-variants.{Missing, Longer, Hi
 abbrev pub Octets : List ℕ → Type 0
 Octets l = (k : ℕ) → getD l k 0 < 256
 
+-- what reading the front of a list of octets gives: a fault, or a value and the octets behind it
 pub data Read (A : Type 0) : Type 0 where
   bad : Fault → Read A
   ok : A → List ℕ → Read A
 
--- the number that document 01 gives a fault of each kind
+-- the number of a fault, whatever its kind: "It gives 16 for reading"
 abbrev pub faultNumber : Fault → ℕ
 faultNumber Missing = 16
 faultNumber Longer = 16
@@ -28,15 +29,17 @@ pub data Told (A : Type 0) : Type 0 where
   refused : ℕ → Fault → Told A
 
 module _ {A : Type 0} where
+  -- a reading as it is told: "It gives 16 for reading exactly if the octets are over 2,048 or are neither a denial" nor a message "in the layouts above"
   abbrev pub told : Read A → Told A
   told (ok a r) = message a
   told (bad f) = refused 16 f
 
+  -- the one or the other, by a test
   abbrev pub pick : Bool → A → A → A
   pick true a b = a
   pick false a b = b
 
-  -- read to the last octet
+  -- "the body does not decode to its last octet" is a fault
   abbrev pub atEnd : Read A → Read A
   atEnd (bad f) = bad f
   atEnd (ok a []) = ok a []

@@ -8,6 +8,7 @@ use Rattle.octets.specs.Reading.{pick}
 use Rattle.octets.specs.declared.Form.{Form}
 use Rattle.octets.specs.declared.Form.the-variants as f
 
+-- "Such a request is one of seven operations, six of them plain or with a password"
 pub data Command : Type 0 where
   resourceInformation : Command
   allocate : Command
@@ -17,6 +18,7 @@ pub data Command : Type 0 where
   bulkRead : Command
   bulkWrite : Command
 
+-- the table's column 'Plain'
 abbrev pub commandNumber : Command → ℕ
 commandNumber resourceInformation = 0
 commandNumber allocate = 1
@@ -26,6 +28,7 @@ commandNumber write = 4
 commandNumber bulkRead = 5
 commandNumber bulkWrite = 6
 
+-- with a password 64 more: the column 'With password', from 65 to 70
 abbrev pub formNumber : Form → ℕ
 formNumber f.Plain = 0
 formNumber f.Password = 64
@@ -34,15 +37,18 @@ formNumber f.Password = 64
 abbrev pub kindOf : Command → Form → ℕ
 kindOf c w = commandNumber c + formNumber w
 
--- operation types 7 to 64 and 71 to 255 are in no row of the table
+-- the operation type stands in the table: not "7 to 64 and 71 to 255", nor more than an octet holds
 unfoldable pub known : ℕ → Bool
 known kind = leb kind 6 || (leb 65 kind && leb kind 70)
 
+-- the column of an operation type
 abbrev pub formAt : ℕ → Form
 formAt kind = pick (leb 65 kind) f.Password f.Plain
 
+-- the table's lines, from 0 on
 abbrev pub commands : List Command
 commands = resourceInformation ∷ allocate ∷ free ∷ read ∷ write ∷ bulkRead ∷ bulkWrite ∷ []
 
+-- the line of an operation type
 abbrev pub commandAt : ℕ → Command
 commandAt kind = getD commands (pick (leb 65 kind) (kind - 64) kind) resourceInformation

@@ -12,18 +12,22 @@ use Rattle.octets.specs.declared.Access.the-variants as a
 use Rattle.octets.specs.declared.Form.{Form}
 use Rattle.octets.specs.declared.Form.the-variants as f
 
+-- the form of an access
 abbrev pub formOf : Access → Form
 formOf a.Plain = f.Plain
 formOf (a.Password p) = f.Password
 
+-- no password
 abbrev pub isPlain : Access → Bool
 isPlain a.Plain = true
 isPlain (a.Password p) = false
 
+-- the password; none is written for a plain access
 abbrev pub secret : Access → ℕ
 secret a.Plain = 0
 secret (a.Password p) = p
 
+-- a password of eight octets: "Any 8 octets may be a password, all zeros too."
 abbrev pub isPassword : Access → Bool
 isPassword a.Plain = false
 isPassword (a.Password p) = ltb p (256 ^ 8)
@@ -38,16 +42,18 @@ abbrev pub lock : Form → Layout Access
 lock f.Plain = record { put = λ x. []; get = λ l. ok a.Plain l; fits = isPlain }
 lock f.Password = record { put = λ x. octets 8 (secret x); get = λ l. andThen (decodeNumber 8 l) (λ p r. ok (a.Password p) r); fits = isPassword }
 
+-- a tag, and how the right to it is shown
 abbrev pub Keyed : Type 0
 Keyed = ℕ × Access
 
+-- such a tag, and data
 abbrev pub Held : Type 0
 Held = Keyed × List ℕ
 
--- a tag, or a tag and its password
+-- "A tag with password is tag, then password." (3.2-28); plain it is the tag
 abbrev pub key : Form → Layout Keyed
 key w = seq (numeral 8) (lock w)
 
--- memory data
+-- "Memory data is tag, length, data; with password it is tag, password, length, data." (3.2-15, 3.2-33)
 abbrev pub memory : Form → Layout Held
 memory w = seq (key w) data'
