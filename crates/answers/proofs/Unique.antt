@@ -1,27 +1,21 @@
--- The promise of each public function of this crate leaves one outcome: any two that it allows are equal, and nothing is asked of the caller for it.
--- That of read_answer is `Understood`: what an answer says of the octets, and that its span or list ends with them, tell it from every other answer.
--- Those of the writers are `Does`: does-unique of octets speaks of them all.
+-- The promise of the reader of answers leaves one answer: any two that it allows are equal. It is `Understood`: what an answer says of the octets, and that its span or list ends with them, tell it from every other answer.
+-- The promises of the writers are `Does`: does-unique of octets speaks of them.
 use Prim.Native.Nat.{ℕ, _+_, _-_, _<_}
 use mathlib.Core.Path.{_≡_, refl, sym, ap, _∙_}
-use mathlib.Core.Bool.{Bool}
 use mathlib.Core.List.{List}
 use native.Mathlib.Omega.{arith}
 use lib.Dec.{leb}
 use borrow.Author.Tests.{le-leb, lt-leb}
 use Rattle.octets.specs.Reading.{pick, Octets, Told, message, refused}
-use Rattle.octets.specs.Area.{Does, described}
 use Rattle.octets.specs.declared.Form.{Form}
 use Rattle.octets.specs.declared.Form.the-variants as f
-use Rattle.octets.specs.declared.Written.{Written}
 use Rattle.octets.proofs.Spans.{spanAt, listAt, span-is, list-is}
-use Rattle.octets.proofs.Unique.{does-unique}
 use Rattle.tags.specs.Entry.{key, memory}
 use Rattle.tags.proofs.Entries.{key-lawful, memory-lawful}
 use Rattle.resources.specs.Resource.{resource}
 use Rattle.resources.proofs.Resources.{resource-lawful}
 use Rattle.requests.specs.Command.{formNumber}
-use Rattle.answers.specs.Denial.{Denial, denialSent}
-use Rattle.answers.specs.Answer.{Body, Answer, accepted, denied, answerSent}
+use Rattle.answers.specs.Answer.{Body, Answer, accepted, denied}
 use Rattle.answers.specs.Answer as b
 use Rattle.answers.specs.View.{givenKind, givenBody, givenPlace, replyIn, replyPlace, Understood}
 use Rattle.answers.specs.declared.Given.{Given}
@@ -78,16 +72,3 @@ module _ {s : List ℕ} {x y : Reply} (o : Octets s) where
   -- read_answer: one answer or denial with its values and their places, or one fault
   pub answer-unique : Understood s x → Understood s y → x ≡ y
   answer-unique p q = sym (reply-is s o x (p .place)) ∙ ap (placed s) (p .says ∙ sym (q .says)) ∙ reply-is s o y (q .place)
-
-module _ {x y : Written} {new new' : List ℕ} (old : List ℕ) where
-  -- write_denial: one outcome and one area
-  pub denial-unique : (d : Denial) → Does (denialSent d old) x new → Does (denialSent d old) y new' → (x ≡ y) × (new ≡ new')
-  denial-unique d p q = does-unique p q
-
-  -- write_allocate, write_free, write_read, write_write and write_bulk_write
-  pub sent-unique : (a : Answer) → Does (answerSent a old) x new → Does (answerSent a old) y new' → (x ≡ y) × (new ≡ new')
-  sent-unique a p q = does-unique p q
-
-  -- write_resources and write_bulk_read, for slices that describe an answer or none
-  pub described-unique : (t : Bool) (a : Answer) → Does (described t (answerSent a old) old) x new → Does (described t (answerSent a old) old) y new' → (x ≡ y) × (new ≡ new')
-  described-unique t a p q = does-unique p q

@@ -1,24 +1,22 @@
--- The promise of each reader of requests leaves one answer: any two that it allows are equal.
+-- The promise of the reader of requests leaves one answer: any two that it allows are equal.
 -- The promises of the writers are `Does`: does-unique of octets speaks of them.
-use Prim.Native.Nat.{ℕ, _-_}
+use Prim.Native.Nat.{ℕ}
 use mathlib.Core.Path.{_≡_, refl, sym, ap, _∙_}
 use mathlib.Core.List.{List}
-use Rattle.octets.specs.Reading.{Read, bad, ok, Told, message, refused, Octets}
+use Rattle.octets.specs.Reading.{Told, message, refused, Octets}
 use Rattle.octets.specs.Frame.{Message}
 use Rattle.octets.specs.declared.Form.{Form}
 use Rattle.octets.specs.declared.Form.the-variants as f
 use Rattle.octets.proofs.Spans.{spanAt, listAt, span-is, list-is}
 use Rattle.tags.specs.Entry.{key, memory}
 use Rattle.tags.proofs.Entries.{key-lawful, memory-lawful}
-use Rattle.requests.specs.Command.{Command, kindOf, formAt}
+use Rattle.requests.specs.Command.{kindOf, formAt}
 use Rattle.requests.specs.Command as c
 use Rattle.requests.specs.Request.{Body}
 use Rattle.requests.specs.Request as b
-use Rattle.requests.specs.View.{operationKind, operationBody, operationPlace, decodedIn, decodedPlace, DecodedAs, DecodedAt, requestIn, requestPlace, Understood}
+use Rattle.requests.specs.View.{operationKind, operationBody, operationPlace, requestIn, requestPlace, Understood}
 use Rattle.requests.specs.declared.Operation.{Operation}
 use Rattle.requests.specs.declared.Operation.the-variants as o
-use Rattle.requests.specs.declared.Decoded.{Decoded}
-use Rattle.requests.specs.declared.Decoded.the-variants as d
 use Rattle.requests.specs.declared.Request.{Request}
 use Rattle.requests.specs.declared.Request.the-variants as r
 
@@ -32,10 +30,6 @@ placedBody s kind (b.read k) = o.Read (k .1) (k .0)
 placedBody s kind (b.write h) = o.Write (h .0 .1) (h .0 .0) (spanAt s (h .1))
 placedBody s kind (b.bulkRead ks) = o.BulkRead (formAt kind) (listAt (key (formAt kind)) s ks)
 placedBody s kind (b.bulkWrite hs) = o.BulkWrite (formAt kind) (listAt (memory (formAt kind)) s hs)
-
-abbrev placedRead : List ℕ → ℕ → Read Body → Decoded
-placedRead s kind (ok x l) = d.Good (placedBody s kind x)
-placedRead s kind (bad f) = d.Bad f
 
 abbrev placed : List ℕ → Told (Message Body) → Request
 placed s (message m) = r.Message (m .version) (placedBody s (m .kind) (m .body))
@@ -62,11 +56,7 @@ body-is s (o.Write access tag p) u h = ap (o.Write access tag) (span-is s p h)
 body-is s (o.BulkRead w list) u h = rw (bulk-read-form w) (ap (o.BulkRead w) (list-is s (key w) (key-lawful w) u list (h .0) (h .1)))
 body-is s (o.BulkWrite w list) u h = rw (bulk-write-form w) (ap (o.BulkWrite w) (list-is s (memory w) (memory-lawful w) u list (h .0) (h .1)))
 
--- and so is a body that was read, and a whole request
-read-is : (s : List ℕ) (kind : ℕ) (r : Decoded) → Octets s → decodedPlace s kind r → placedRead s kind (decodedIn s r) ≡ r
-read-is s kind (d.Good x) u h = rw (← h .0) (ap d.Good (body-is s x u (h .1)))
-read-is s kind (d.Bad f) u h = refl
-
+-- and so is a whole request
 request-is : (s : List ℕ) (r : Request) → Octets s → requestPlace s r → placed s (requestIn s r) ≡ r
 request-is s (r.Message version x) u h = ap (r.Message version) (body-is s x u (h .1))
 request-is s (r.Bad f) u h = refl
@@ -74,15 +64,6 @@ request-is s (r.Bad f) u h = refl
 -- ---- the promises
 
 module _ {s : List ℕ} (u : Octets s) where
-  -- the reader of each operation's body: one operation or one fault
-  pub decoded-unique : {x : Command} {w : Form} {at : ℕ} {r t : Decoded} → DecodedAs x w s at r → DecodedAs x w s at t → r ≡ t
-  decoded-unique {x} {w} {at} {r} {t} p q =
-      sym (read-is s (kindOf x w) r u (p .place)) ∙ ap (placedRead s (kindOf x w)) (p .says ∙ sym (q .says)) ∙ read-is s (kindOf x w) t u (q .place)
-
-  -- read_body: the same
-  pub body-unique : {kind at : ℕ} {r t : Decoded} → DecodedAt kind s at r → DecodedAt kind s at t → r ≡ t
-  body-unique {kind} {at} {r} {t} p q = sym (read-is s kind r u (p .place)) ∙ ap (placedRead s kind) (p .says ∙ sym (q .says)) ∙ read-is s kind t u (q .place)
-
   -- read_request: one version and one operation, or one fault
   pub request-unique : {r t : Request} → Understood s r → Understood s t → r ≡ t
   request-unique {r} {t} p q = sym (request-is s r u (p .place)) ∙ ap (placed s) (p .says ∙ sym (q .says)) ∙ request-is s t u (q .place)
