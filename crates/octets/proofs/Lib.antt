@@ -8,3 +8,4 @@ pub mod Sends
 pub mod Frames
 pub mod Spans
 pub mod Unique
+pub mod Table
