@@ -2,3 +2,4 @@ pub mod Walks
 pub mod Lists
 pub mod Handed
 pub mod Unique
+pub mod Table

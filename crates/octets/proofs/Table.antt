@@ -47,7 +47,7 @@ puts =
     -- the frame: version 15, and a body's length in one octet and in two
     ∷ (opening 15 3 127, 0xF0 ∷ 1 ∷ 3 ∷ 0 ∷ 0x7F ∷ [])
     ∷ (opening 0 70 128, 0x00 ∷ 1 ∷ 70 ∷ 0 ∷ 0x80 ∷ 0x80 ∷ [])
-    -- a field at a place of three octets: it ends where they end, it is one too long, it is empty, it starts past the end
+    -- a field at a place of three octets: it ends where they end, it is one too long, it leaves what is behind
     ∷ (laid (1 ∷ 2 ∷ 3 ∷ []) 1 (8 ∷ 9 ∷ []), 1 ∷ 8 ∷ 9 ∷ [])
     ∷ (laid (1 ∷ 2 ∷ 3 ∷ []) 2 (8 ∷ 9 ∷ []), 1 ∷ 2 ∷ 3 ∷ [])
     ∷ (laid (1 ∷ 2 ∷ 3 ∷ []) 0 (8 ∷ []), 8 ∷ 2 ∷ 3 ∷ [])
@@ -125,7 +125,7 @@ numbers =
     ∷ (faultNumber Longer, 16)
     ∷ (faultNumber High, 16)
     ∷ (faultNumber Other, 16)
-    -- where the field behind two octets starts: at the end, or where these would have, one place further on and past the end
+    -- where the next field starts: behind two octets that end with the area, at the place of two that do not fit, and of none past the end
     ∷ (past (1 ∷ 2 ∷ 3 ∷ []) 1 (8 ∷ 9 ∷ []), 3)
     ∷ (past (1 ∷ 2 ∷ 3 ∷ []) 2 (8 ∷ 9 ∷ []), 2)
     ∷ (past (1 ∷ 2 ∷ 3 ∷ []) 4 [], 4)
@@ -158,7 +158,7 @@ tests =
     ∷ (openable 15 3 2042, true)
     ∷ (openable 16 3 2042, false)
     ∷ (openable 15 3 2043, false)
-    -- a test at each of no places; it fails at the last, at the first, behind the last
+    -- a test at no place; it fails at the last of three, at the first, and only behind the last
     ∷ (every (λ i. false) 0, true)
     ∷ (every (λ i. ltb i 2) 3, false)
     ∷ (every (λ i. ltb 0 i) 3, false)
