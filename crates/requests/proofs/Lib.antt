@@ -2,3 +2,4 @@ pub mod Requests
 pub mod Readings
 pub mod Theorems
 pub mod Unique
+pub mod Table
