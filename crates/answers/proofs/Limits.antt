@@ -1,5 +1,5 @@
--- The definitions at their limits, in two tables that are each proved by computation: which messages may be written, on both sides of every limit of document 01, and
--- damaged octets with the kind of their fault.
+-- The definitions at their limits, in tables that are each proved by computation: which messages may be written, on both sides of every limit of document 01;
+-- damaged octets with the kind of their fault; and document 01's number and values for each case of what an answer is read as.
 use Prim.Native.Nat.{ℕ}
 use mathlib.Core.Path.{_≡_, refl}
 use mathlib.Core.Bool.{Bool, true, false}
@@ -9,9 +9,11 @@ use Rattle.octets.specs.Length.{encodeLength, decodeLength}
 use Rattle.octets.specs.Number.{number, octets, decodeNumber}
 use Rattle.octets.specs.Frame.{opening, openable, heading, enclosed, decode, writable, receive}
 use Rattle.octets.specs.declared.Access.the-variants as a
+use Rattle.octets.specs.declared.Entries.{Entries}
 use Rattle.octets.specs.declared.Fault.{Fault}
 use Rattle.octets.specs.declared.Fault.the-variants.{Missing, Longer, High, Other}
 use Rattle.octets.specs.declared.Form.the-variants as f
+use Rattle.octets.specs.declared.Span.{Span}
 use Rattle.resources.specs.Resource.{modeKnown}
 use Rattle.resources.specs.declared.Resource.{Resource}
 use Rattle.requests.specs.Command.{known}
@@ -19,6 +21,9 @@ use Rattle.requests.specs.Request.{request, requestBody, requestRead, requestWr
 use Rattle.requests.specs.Request as q
 use Rattle.answers.specs.Answer.{accepted, denied, answer, answerBody, answerRead, answerWritable}
 use Rattle.answers.specs.Answer as r
+use Rattle.answers.specs.View.{givenKind, givenBody}
+use Rattle.answers.specs.declared.Given.{Given}
+use Rattle.answers.specs.declared.Given.the-variants as g
 use Rattle.answers.proofs.Worked.{Sent, asks, replies, K, P, k, left, times}
 
 -- ---- which messages may be written
@@ -112,6 +117,7 @@ abbrev damaged-requests : List (List ℕ × Fault)
 damaged-requests =
     ([], Other)
     ∷ (0x10 ∷ [], Other)
+    ∷ (0x10 ∷ 1 ∷ [], Other)
     ∷ (0x10 ∷ 1 ∷ 3 ∷ [], Other)
     ∷ (0x11 ∷ 1 ∷ 3 ∷ 0 ∷ 8 ∷ k, Other)
     ∷ (0x10 ∷ 0 ∷ 3 ∷ 0 ∷ 8 ∷ k, Other)
@@ -167,6 +173,10 @@ damaged-answers =
     ∷ (begins 192 (1 ∷ 0 ∷ []), Other)
     ∷ (begins 199 (8 ∷ k), Other)
     ∷ (begins 194 (16 ∷ k ++ k), Other)
+    -- types below 128, with a body that type 128 has; and 2,049 octets
+    ∷ (begins 0 (19 ∷ times 19 0), Other)
+    ∷ (begins 127 (19 ∷ times 19 0), Other)
+    ∷ (begins 131 (0x87 ∷ 0xfb ∷ k ++ (0x87 ∷ 0xf1 ∷ times 2033 0)), Other)
     ∷ []
 
 abbrev faults : {A : Type 0} → List (List ℕ × Fault) → List (Told A)
@@ -178,3 +188,52 @@ pub damaged-refused :
     × (map (λ (x : List ℕ × Fault). told (answerRead (x .0))) damaged-answers ≡ faults damaged-answers)
 unfolding requestBody answerBody known receive answerRead decode heading enclosed decodeLength decodeNumber number modeKnown
 damaged-refused = (refl, refl)
+
+-- ---- the number of each case: "The answer's type is the request's plus 128"
+
+-- a list and a part of the octets below
+abbrev list : Entries
+list = record { start = 0; count = 1 }
+
+abbrev part : Span
+part = record { start = 9; len = 1 }
+
+abbrev kinds : List (Given × ℕ)
+kinds =
+    (g.Resources (left 31 8128) list, 128)
+    ∷ (g.Allocate f.Plain 5, 129)
+    ∷ (g.Allocate f.Password 5, 193)
+    ∷ (g.Free f.Plain 5, 130)
+    ∷ (g.Free f.Password 5, 194)
+    ∷ (g.Read f.Plain 5 part, 131)
+    ∷ (g.Read f.Password 5 part, 195)
+    ∷ (g.Write f.Plain 5, 132)
+    ∷ (g.Write f.Password 5, 196)
+    ∷ (g.BulkRead f.Plain list, 133)
+    ∷ (g.BulkRead f.Password list, 197)
+    ∷ (g.BulkWrite f.Plain list, 134)
+    ∷ (g.BulkWrite f.Password list, 198)
+    ∷ []
+
+pub kinds-hold : map (λ (x : Given × ℕ). givenKind (x .0)) kinds ≡ map (λ (x : Given × ℕ). x .1) kinds
+kinds-hold = refl
+
+-- ---- its values, where the octets are tag 9 and one octet of data, or what is told of tag 9; no answer carries a password
+
+abbrev s : List ℕ
+s = 0 ∷ 0 ∷ 0 ∷ 0 ∷ 0 ∷ 0 ∷ 0 ∷ 9 ∷ 1 ∷ 0xAA ∷ 0 ∷ 0 ∷ 2 ∷ 0 ∷ 0 ∷ 0 ∷ 3 ∷ []
+
+abbrev bodies : List (Given × r.Body)
+bodies =
+    (g.Resources (left 31 8128) list, r.resourceInformation (left 31 8128, record { tag = 9; mode = 1; held = 0xAA000002; size = 3 } ∷ []))
+    ∷ (g.Allocate f.Password 5, r.allocate (5, a.Plain))
+    ∷ (g.Free f.Password 5, r.free (5, a.Plain))
+    ∷ (g.Read f.Password 5 part, r.read ((5, a.Plain), 0xAA ∷ []))
+    ∷ (g.Write f.Password 5, r.write (5, a.Plain))
+    ∷ (g.BulkRead f.Password list, r.bulkRead (((9, a.Plain), 0xAA ∷ []) ∷ []))
+    ∷ (g.BulkWrite f.Password list, r.bulkWrite ((9, a.Plain) ∷ []))
+    ∷ []
+
+pub bodies-hold : map (λ (x : Given × r.Body). givenBody s (x .0)) bodies ≡ map (λ (x : Given × r.Body). x .1) bodies
+unfolding decodeLength decodeNumber number modeKnown
+bodies-hold = refl
