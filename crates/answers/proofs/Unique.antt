@@ -1,5 +1,5 @@
--- The promise of the reader of answers leaves one answer: any two that it allows are equal. It is `Understood`: what an answer says of the octets, and that its span or list ends with them, tell it from every other answer.
--- The promises of the writers are `Does`: does-unique of octets speaks of them.
+-- The promise of the reader of answers leaves one answer: any two that it allows are equal. It is `Understood`: what an answer says of the octets, and that its span or
+-- list ends with them, tell it from every other answer. The promises of the writers are `Does`: does-unique of octets speaks of them.
 use Prim.Native.Nat.{ℕ, _+_, _-_, _<_}
 use mathlib.Core.Path.{_≡_, refl, sym, ap, _∙_}
 use mathlib.Core.List.{List}
