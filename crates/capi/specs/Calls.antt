@@ -28,12 +28,12 @@ use Rattle.capi.specs.Slices.{Slices, lent, Holds}
 abbrev pub portOf : ℕ → Port
 portOf n = pick (eqb n 1) Secure Normal
 
--- plain, or with a password
+-- the access that a call passes: a password, or none
 abbrev pub accessOf : Bool → ℕ → Access
 accessOf true password = Password password
 accessOf false password = Plain
 
--- in a list, each entry has its own
+-- the form of a list that a call passes: each entry with its password, or none
 abbrev pub formFor : Bool → Form
 formFor true = f.Password
 formFor false = f.Plain
