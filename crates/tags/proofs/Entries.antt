@@ -10,6 +10,7 @@ use Rattle.octets.specs.Reading.{ok, andThen, Octets}
 use Rattle.octets.specs.Length.{encodeLength}
 use Rattle.octets.specs.Number.{octets, decodeNumber}
 use Rattle.octets.specs.Layout.{numeral, data'}
+use Rattle.octets.specs.Area.{Wrote}
 use Rattle.octets.specs.declared.Access.{Access}
 use Rattle.octets.specs.declared.Access.the-variants as a
 use Rattle.octets.specs.declared.Form.{Form}
@@ -100,6 +101,11 @@ module _ (t : ℕ) (x : Access) {w : Form} (g : (w ≡ formOf x) × (lock w .fit
   -- and takes the octets of its length and its own besides
   pub held-size : (d : List ℕ) {n m : ℕ} → (n ≡ lockSize w) × (n ≤ 8) → (m ≡ length (encodeLength (length d))) × (m ≤ 2) → 8 + n + m + length d ≡ length (memory (formOf x) .put ((t, x), d))
   held-size d n m = rw (length-memory (formOf x) ((t, x), d), ← g .0, n .0, m .0)
+
+-- ---- a field that is written at a place that is computed, not the one that the field before it handed on
+
+pub wrote-to : {old v x : List ℕ} {at p : ℕ} (q : ℕ) → Wrote old at v x p → q ≡ at + length v → Wrote old at v x q
+wrote-to q w e = record { holds = w .holds; next = e }
 
 -- ---- a place past the octets is their end
 

@@ -112,6 +112,7 @@ pub fn read_key(s: &[u8], at: usize, form: Form) -> Key
 }
 
 // Writes a tag, and its password if there is one, if the area has room for both.
+// Here and in put_memory each field's place is computed, not what the writer before it returns: so the compiler sees that no later test of room can fail.
 pub fn put_key(out: &mut [u8], at: usize, access: Access, tag: u64) -> usize
     ensures { λ r. ⌜ Laid (now (out .entry)) at (key (formOf access) .put (tag, access)) (now (out .exit)) r ⌝ }
 {
@@ -122,8 +123,9 @@ pub fn put_key(out: &mut [u8], at: usize, access: Access, tag: u64) -> usize
     if out.len() - at < size {
         return at;
     }
-    let next = octets::write_number(out, at, Width::Eight, tag);
-    write_lock(out, next, access)
+    octets::write_number(out, at, Width::Eight, tag);
+    write_lock(out, at + 8, access);
+    at + size
 }
 
 // A message whose body is a tag, or a tag and its password.
@@ -183,9 +185,12 @@ pub fn put_memory(out: &mut [u8], at: usize, access: Access, tag: u64, src: &[u8
     if out.len() - at < size {
         return at;
     }
-    let named = put_key(out, at, access, tag);
-    let sized = octets::write_length(out, named, src.len());
-    octets::copy(out, sized, src)
+    let named = at + 8 + lock_size(form_of(access));
+    let sized = named + octets::length_size(n);
+    put_key(out, at, access, tag);
+    octets::write_length(out, named, n);
+    octets::copy(out, sized, src);
+    at + size
 }
 
 // A message whose body is memory data.

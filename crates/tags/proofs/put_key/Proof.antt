@@ -1,5 +1,5 @@
 use mathlib.Core.List.{List}
-use Prim.Native.Nat.{ℕ}
+use Prim.Native.Nat.{ℕ, _+_}
 use native.Mathlib.Omega.{arith}
 use borrow.Author.Needs.{needs}
 use denote.Ref.{now}
@@ -7,7 +7,7 @@ use Rattle.octets.specs.Number.{octets}
 use Rattle.octets.proofs.Numbers.{length-octets}
 use Rattle.octets.proofs.Areas.{laid-all, laid-not, wrote-none, wrote-more}
 use Rattle.tags.specs.Entry.{formOf, lock, key}
-use Rattle.tags.proofs.Entries.{length-key, length-lock, keyed-size}
+use Rattle.tags.proofs.Entries.{length-key, length-lock, keyed-size, wrote-to}
 use Rattle.tags.proofs.put_key.Statement.{statement}
 use Rattle.tags.proofs.put_key.Tie as tie
 
@@ -38,8 +38,14 @@ returns-2 c =
 write-number-requires : tie.Need-write-number-requires
 write-number-requires c κs = search needs
 
+add-write-lock : tie.Need-add-write-lock
+add-write-lock c = search needs
+
 write-lock-requires : tie.Need-write-lock-requires
 write-lock-requires c κs = search needs
+
+add-result : tie.Need-add-result
+add-result c = search needs
 
 same-length : tie.Need-same-length
 same-length c = search needs
@@ -54,8 +60,8 @@ returns-3 c =
     let l = length-key (formOf (a .access)) (a .tag, a .access) in
     let m = length-lock (formOf (a .access)) (a .access) in
     let t = wrote-more (octets 8 (a .tag)) (wrote-none (now (a .out)) (a .at)) (omega arith) (c .before .before .before .before .before .before .write-number .ensures) in
-    let p = wrote-more (lock (formOf (a .access)) .put (a .access)) t (omega arith) (c .before .before .write-lock .ensures) in
-    laid-all (now (a .out)) (a .at) v (omega arith) (p .holds) (p .next)
+    let p = wrote-more (lock (formOf (a .access)) .put (a .access)) (wrote-to (a .at + 8) t (omega arith)) (omega arith) (c .before .before .write-lock .ensures) in
+    laid-all (now (a .out)) (a .at) v (omega arith) (p .holds) (omega arith)
 
 pub put-key-spec : {M : Type 1} → statement M
 put-key-spec =
@@ -68,6 +74,8 @@ put-key-spec =
     sub-if2
     returns-2
     write-number-requires
+    add-write-lock
     write-lock-requires
+    add-result
     same-length
     returns-3)
