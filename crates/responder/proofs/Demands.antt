@@ -2,8 +2,8 @@
 use mathlib.Core.Path.{_≡_, sym, _∙_, ap}
 use lib.ListN.{length}
 use Rattle.store.proofs.Unique.{shows-unique}
-use Rattle.responder.specs.Demands.{Fixed, DenialKeeps, SilenceKeeps, DenialArea, SilenceArea, Readable, Secret, StillSecret, SecretRuns, NoPlainWrite, NoPlainRead}
-use Rattle.responder.specs.Entry.{areaFor}
+use Rattle.responder.specs.Demands.{Fixed, FixedByLength, DenialKeeps, SilenceKeeps, DenialArea, SilenceArea, Readable, Secret, StillSecret, SecretRuns, NoPlainWrite, NoPlainRead}
+use Rattle.responder.specs.Entry.{areaFor, Responded}
 use Rattle.responder.specs.Respond.{Result, respond}
 use Rattle.responder.proofs.Refusals
 use Rattle.responder.proofs.Readable as read
@@ -17,6 +17,14 @@ fixed u p s old r r′ new new′ table table′ pool pool′ h k =
     let w = shows-unique (respond u p s (length old) .unit) (r .head) (r′ .head) table pool table′ pool′ (h .left) (k .left) in
     let i : r .sent ≡ r′ .sent = both.word-is (r .sent) (r′ .sent) (h .says ∙ sym (k .says)) in
     (rw (w .0, i), h .area ∙ sym (k .area), w .1, w .2)
+
+-- whatever the area holds
+pub fixed-by-length : FixedByLength
+fixed-by-length u p s old old′ r r′ new new′ table table′ pool pool′ e h k′ =
+    let k : Responded (respond u p s (length old)) r′ old′ new′ table′ pool′ = rw e k′ in
+    let w = shows-unique (respond u p s (length old) .unit) (r .head) (r′ .head) table pool table′ pool′ (h .left) (k .left) in
+    let i : r .sent ≡ r′ .sent = both.word-is (r .sent) (r′ .sent) (h .says ∙ sym (k .says)) in
+    (rw (w .0, i), w .1, w .2, h .area, k .area)
 
 -- a denial changes no tag
 pub denial-keeps : DenialKeeps

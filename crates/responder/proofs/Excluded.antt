@@ -86,6 +86,11 @@ tells : respond fresh Normal asking 2048 .result ≡ replied (accepted (answer 1
 unfolding respond handled firstLines fitted known receive decode heading enclosed requestBody decodeLength decodeNumber number act allTold resourcesDone total
 tells = refl
 
+-- and so does one with a tag of one octet
+tells-plain : respond plain Normal asking 2048 .result ≡ replied (accepted (answer 1 form.Plain (b.resourceInformation (left 31 8191, []))))
+unfolding respond handled firstLines fitted known receive decode heading enclosed requestBody decodeLength decodeNumber number modeKnown act allocateDone allTold resourcesDone allocateStep registered look admission unitManaged bare total
+tells-plain = refl
+
 -- it denies an empty request by 16
 denies-16 : respond fresh Normal [] 2048 .result ≡ replied (denial 1 16)
 unfolding respond handled firstLines
@@ -207,23 +212,25 @@ module _ (f : Responder) where
       ∙ ap (λ (v : State). heldBy (registered v W)) (d two Normal listing both first (second ∷ []) passes-both refl)
       ∙ stores-both .1)
 
-  -- the octets that are told to remain are g of the unit
-  abbrev pub TellsOctets : (State → ℕ) → Type 0
-  TellsOctets g = (u : State) (p : Port) (s : List ℕ) (area v : ℕ) (x : Room) (rs : List Resource)
-      → f u p s area .result ≡ replied (accepted (answer v form.Plain (b.resourceInformation (x, rs)))) → x .octets ≡ g u
+  -- what is told to remain is g of the unit
+  abbrev pub TellsRoom : (State → Room) → Type 0
+  TellsRoom g = (u : State) (p : Port) (s : List ℕ) (area v : ℕ) (x : Room) (rs : List Resource)
+      → f u p s area .result ≡ replied (accepted (answer v form.Plain (b.resourceInformation (x, rs)))) → x ≡ g u
 
-  -- one that tells a new unit's octets as other than 8,192 does not
-  pub invented-excluded : (g : State → ℕ) → (g fresh ≡ 8192 → ⊥) → TellsOctets g → Meets f → ⊥
-  invented-excluded g n d h = n (sym (d fresh Normal asking 2048 1 (left 32 8192) [] (ap (λ (o : Out). o .result) (h fresh Normal asking 2048) ∙ tells)))
+  -- one that tells anything but 32 tags and 8,192 octets of a new unit, or anything but 31 and 8,191 of one with a tag of one octet, does not
+  pub invented-excluded : (g : State → Room) → ((g fresh ≡ left 32 8192) × (g plain ≡ left 31 8191) → ⊥) → TellsRoom g → Meets f → ⊥
+  invented-excluded g n d h =
+      n
+      (sym (d fresh Normal asking 2048 1 (left 32 8192) [] (ap (λ (o : Out). o .result) (h fresh Normal asking 2048) ∙ tells))
+      , sym (d plain Normal asking 2048 1 (left 31 8191) [] (ap (λ (o : Out). o .result) (h plain Normal asking 2048) ∙ tells-plain)))
 
   -- one that always tells 0
-  pub none-left-excluded : TellsOctets (λ u. 0) → Meets f → ⊥
-  none-left-excluded = invented-excluded (λ u. 0) (λ e. omega (arith, e))
+  pub none-left-excluded : TellsRoom (λ u. left 0 0) → Meets f → ⊥
+  none-left-excluded = invented-excluded (λ u. left 0 0) (λ e. let i : _≡_ {A = ℕ} 0 8192 = ap (λ (x : Room). x .octets) (e .0) in omega (arith, i))
 
-  -- one that tells one more than remain
-  pub one-more-excluded : TellsOctets (λ u. suc (remainder (headOf u) .octets)) → Meets f → ⊥
-  unfolding total
-  one-more-excluded = invented-excluded (λ u. suc (remainder (headOf u) .octets)) (λ e. omega (arith, e))
+  -- one that always tells the whole
+  pub whole-left-excluded : TellsRoom (λ u. left 32 8192) → Meets f → ⊥
+  whole-left-excluded = invented-excluded (λ u. left 32 8192) (λ e. let i : _≡_ {A = ℕ} 8192 8191 = ap (λ (x : Room). x .octets) (e .1) in omega (arith, i))
 
 -- ---- errors in lists
 

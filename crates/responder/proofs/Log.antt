@@ -5,6 +5,7 @@ use mathlib.Core.Path.{_≡_, refl, sym, ap, _∙_}
 use mathlib.Core.Bool.{Bool, true, false}
 use mathlib.Core.List.{List, [], _∷_, _++_}
 use lib.Dec.{ltb}
+use lib.ListN.{length}
 use Rattle.octets.specs.Frame.{Message}
 use Rattle.octets.specs.Reading.{pick, Told, message, refused, told}
 use Rattle.octets.specs.declared.Form.{Form}
@@ -18,7 +19,7 @@ use Rattle.admission.specs.Mode.{codeMode, codeSpf}
 use Rattle.admission.specs.declared.Limits.{Limits}
 use Rattle.admission.specs.declared.Verdict.{Verdict}
 use Rattle.admission.specs.declared.Verdict.the-variants.{Allowed, Denied}
-use Rattle.store.specs.Model.{State, newUnit, total, Shared, Valid}
+use Rattle.store.specs.Model.{State, newUnit, total, Shared, Valid, Sound}
 use Rattle.store.specs.Steps.{Step, Content, content, writeStep, freeStep, allocateStep, readStep}
 use Rattle.store.specs.Steps as s
 use Rattle.store.specs.History.{Call, after, afterAll, allGranted, allFreed}
@@ -26,6 +27,8 @@ use Rattle.store.proofs.History.{history}
 use Rattle.store.proofs.Valid.{new-valid, reached-valid}
 use Rattle.responder.specs.Respond.{named, deny, judged, stepped, allocateDone, freeDone, writeDone, shown, readDone, resourcesDone, bulkReadDone, Writes, oneWrite, allWrites, bulkWriteDone, act, Line, number, none, firstLines, entriesOf, served, lined, handled, silent, sent, respond}
 use Rattle.responder.specs.Demands.{Command, final}
+use Rattle.responder.specs.Entry.{Responded}
+use Rattle.responder.specs.declared.Reply.{Reply}
 use Rattle.responder.specs.Log.{writesOf, callsOf, callsTold, callsLined, calls, allCalls}
 
 -- ---- one command
@@ -93,6 +96,10 @@ pub after-append : (u : State) (a c : List Call) → afterAll u (a ++ c) ≡ aft
 unfolding afterAll
 after-append u [] c = refl
 after-append u (x ∷ a) c = after-append (after u x) a c
+
+-- what the entry leaves is what it asks for
+pub responded-sound : (u : State) (p : Port) (s old new table pool : List ℕ) (r : Reply) → Responded (respond u p s (length old)) r old new table pool → Sound (r .head) table pool
+responded-sound u p s old new table pool r h = record { unit = respond u p s (length old) .unit; shown = h .left }
 
 -- a log does what its calls do
 pub final-calls : (u : State) (cs : List Command) → final u cs ≡ afterAll u (allCalls u cs)

@@ -27,12 +27,14 @@ use Rattle.admission.specs.declared.Mode.the-variants.{Both, ReadOnly, WriteOnl
 use Rattle.rows.specs.Keyed.{look, change}
 use Rattle.rows.proofs.Table.{is, should}
 use Rattle.store.specs.History.{Call, allocate, free, write}
-use Rattle.store.specs.Model.{Tag, State, newUnit, total}
+use Rattle.store.specs.Model.{Tag, State, newUnit, firstKind, total}
 use Rattle.store.specs.Steps.{registered, allocateStep, writeStep}
-use Rattle.responder.specs.Demands.{Protected, Twins, Command, final, carried, SparesAll, Clean}
+use Rattle.responder.specs.Demands.{Protected, Twins, Command, results, final, carried, SparesAll, Clean}
 use Rattle.responder.specs.Log.{writesOf, callsOf, calls}
 use Rattle.responder.specs.Respond.{denial, allocateDone, writeDone, roomOf, resourceAs, act, fitted, firstLines, entriesOf, handled, Result, silent, replied, respond}
 use Rattle.responder.proofs.Starred.{fresh}
+use Rattle.responder.proofs.Log.{log-sound}
+use Rattle.responder.proofs.Secret.{secret}
 
 -- a command with a whole answer area
 abbrev by : Port → List ℕ → Command
@@ -229,7 +231,7 @@ clean =
     ∷ by Normal ((0x10 ∷ 0x01 ∷ 0x43 ∷ 0x00 ∷ 0x0f ∷ []) ++ k ++ p)
     ∷ []
 
-pub clean-there : Clean K P 0 clean
+pub clean-there : Clean K3F P 0 clean
 unfolding Clean SparesAll receive decode heading enclosed requestBody decodeLength decodeNumber number known bare
 clean-there = ((tt, tt), (((λ e. (λ q. omega (arith, q), λ q. omega (arith, q))), tt), (((λ e. absurd (omega (arith, e))), tt), (tt, tt))))
 
@@ -238,3 +240,10 @@ pub unclean-there : (Clean K P 0 (by Normal ((0x10 ∷ 0x01 ∷ 0x43 ∷ 0x00 �
     × (Clean K P 0 (by Normal ((0x10 ∷ 0x01 ∷ 0x45 ∷ 0x00 ∷ 0x21 ∷ 0x02 ∷ []) ++ w ++ p ++ (0x3f ∷ 0x11 ∷ 0x22 ∷ 0x33 ∷ 0x44 ∷ 0x55 ∷ 0x66 ∷ 0x77 ∷ []) ++ times 8 0x00) ∷ []) → ⊥)
 unfolding Clean SparesAll receive decode heading enclosed requestBody decodeLength decodeNumber number known bare
 unclean-there = (λ c. c .0 .0 refl .0 refl, λ c. c .0 .1 .0 refl .1 refl)
+
+-- and what it says of them
+pub secret-there : (results one clean ≡ results other clean) × Twins K3F (record-of P 0xaa) (record-of 0 0xbb) (final one clean) (final other clean)
+secret-there =
+    secret K3F (record-of P 0xaa) (record-of 0 0xbb) P 0 one other clean
+    (log-sound firstKind 1 true true (makes p 0xaa) (record { area = omega arith; message = refl; list = refl }) (omega arith))
+    protected-there twins-there clean-there

@@ -21,7 +21,7 @@ use Rattle.rows.specs.Keyed.{here, change}
 use Rattle.store.specs.Model.{State, Tag, tagId, holding, Valid, Shows}
 use Rattle.store.specs.Steps.{registered}
 use Rattle.responder.specs.Respond.{Result, silent, replied, respond}
-use Rattle.responder.specs.Entry.{Responded}
+use Rattle.responder.specs.Entry.{areaFor, Responded}
 use Rattle.responder.specs.declared.Reply.{Reply}
 use Rattle.responder.specs.declared.Sent.{Sent}
 
@@ -34,6 +34,14 @@ abbrev pub Fixed : Type 0
 Fixed = (u : State) (p : Port) (s old : List ℕ) (r r′ : Reply) (new new′ table table′ pool pool′ : List ℕ)
     → Responded (respond u p s (length old)) r old new table pool → Responded (respond u p s (length old)) r′ old new′ table′ pool′
     → (r ≡ r′) × (new ≡ new′) × (table ≡ table′) × (pool ≡ pool′)
+
+-- and of the area its length alone counts: areas of one length get the same answer, whatever they hold, and behind it each keeps what it held
+abbrev pub FixedByLength : Type 0
+FixedByLength = (u : State) (p : Port) (s old old′ : List ℕ) (r r′ : Reply) (new new′ table table′ pool pool′ : List ℕ)
+    → length old ≡ length old′
+    → Responded (respond u p s (length old)) r old new table pool → Responded (respond u p s (length old′)) r′ old′ new′ table′ pool′
+    → (r ≡ r′) × (table ≡ table′) × (pool ≡ pool′)
+    × (new ≡ areaFor (respond u p s (length old) .result) old) × (new′ ≡ areaFor (respond u p s (length old) .result) old′)
 
 -- "No public entry relies on its caller having checked anything": the contract of `respond` in src/lib.rt requires only that head, table and memory stand for a unit.
 -- `.ci/promises` checks what each public entry requires.
