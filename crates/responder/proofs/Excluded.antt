@@ -2,7 +2,7 @@
 -- nothing, one that handles a list's first entry and merely names the others, and one that invents the remaining room all satisfy demand 3 or nearly so; demand 2
 -- excludes each of them." Beside these the errors that look reasonable: in lists, in the order of denials, and in what a denial is.
 -- Each is refuted by an exchange that computes, with an answer area of 2,048 octets where nothing else is said.
-use Prim.Native.Nat.{ℕ, suc, _*_, _≤_}
+use Prim.Native.Nat.{ℕ, _*_, _≤_}
 use mathlib.Core.Path.{_≡_, refl, sym, ap, _∙_}
 use mathlib.Core.Bool.{true, false}
 use mathlib.Core.List.{List, [], _∷_, _++_, map}
@@ -32,8 +32,8 @@ use Rattle.admission.specs.Admission.{unitManaged, admission}
 use Rattle.admission.specs.declared.Mode.the-variants.{Both}
 use Rattle.admission.specs.declared.Verdict.the-variants.{Denied}
 use Rattle.rows.specs.Keyed.{here, look, change}
-use Rattle.store.specs.Model.{State, Tag, firstKind, headOf, total, Shared, Valid}
-use Rattle.store.specs.Steps.{registered, heldBy, remainder, content, readStep, writeStep, allocateStep}
+use Rattle.store.specs.Model.{State, Tag, firstKind, total, Shared, Valid}
+use Rattle.store.specs.Steps.{registered, heldBy, content, readStep, writeStep, allocateStep}
 use Rattle.store.proofs.Valid.{new-valid}
 use Rattle.responder.specs.Respond.{denial, named, none, entriesOf, Result, silent, replied, Out, allocateDone, writeDone, readDone, allReads, bulkReadDone, allTold, resourcesDone, allWrites, bulkWriteDone, act, fitted, firstLines, handled, respond}
 use Rattle.responder.specs.Demands.{final}
@@ -220,9 +220,10 @@ module _ (f : Responder) where
   -- one that tells anything but 32 tags and 8,192 octets of a new unit, or anything but 31 and 8,191 of one with a tag of one octet, does not
   pub invented-excluded : (g : State → Room) → ((g fresh ≡ left 32 8192) × (g plain ≡ left 31 8191) → ⊥) → TellsRoom g → Meets f → ⊥
   invented-excluded g n d h =
-      n
-      (sym (d fresh Normal asking 2048 1 (left 32 8192) [] (ap (λ (o : Out). o .result) (h fresh Normal asking 2048) ∙ tells))
-      , sym (d plain Normal asking 2048 1 (left 31 8191) [] (ap (λ (o : Out). o .result) (h plain Normal asking 2048) ∙ tells-plain)))
+      n (
+        sym (d fresh Normal asking 2048 1 (left 32 8192) [] (ap (λ (o : Out). o .result) (h fresh Normal asking 2048) ∙ tells)),
+        sym (d plain Normal asking 2048 1 (left 31 8191) [] (ap (λ (o : Out). o .result) (h plain Normal asking 2048) ∙ tells-plain)),
+      )
 
   -- one that always tells 0
   pub none-left-excluded : TellsRoom (λ u. left 0 0) → Meets f → ⊥
