@@ -7,7 +7,7 @@ use native.Mathlib.Omega.{arith}
 use native.Mathlib.Nat.{not-suc-le-zero, le-of-suc-le-suc, pow-suc, mul-assoc, mul-comm, add-zero, mul-add-div-right, lt-of-lt-of-le, mod-eq-of-lt, div-div-eq-div-mul}
 use native.Mathlib.Numerals.{add-one}
 use lib.ListN.{length, getD, set, take, drop, length-reverse, length-append, length-take, length-drop, take-append-drop}
-use lib.Seq.{take-suc, sets, length-take-le, getD-drop, drop-drop, take-at, drop-at}
+use lib.Seq.{take-suc, drop-cons, sets, length-take-le, getD-drop, drop-drop, take-at, drop-at}
 use lib.Arith.{digits-lt, digits-div, mod-mul}
 use lib.Dec.{lit<, leb}
 use borrow.Author.Tests.{le-leb, lt-leb, leb-true}
@@ -149,18 +149,26 @@ turned-back l o e =
     let k : octets 8 (number (reverse l)) ≡ reverse l = rw n at (octets-number (reverse l) (octets-reverse l o)) in
     rw (k, reverse-reverse l)
 
--- one octet more before those that were summed the last first
-pub number-before : (s : List ℕ) (at i : ℕ) → at < length s → number (reverse (take (suc i) (drop at s))) ≡ number (reverse (take i (drop (suc at) s))) * 256 + getD s at 0
-number-before [] at i h = absurd (not-suc-le-zero h)
-number-before (a ∷ l) zero i h = rw (reverse-cons, number-snoc)
-number-before (a ∷ l) (suc at) i h = number-before l at i (le-of-suc-le-suc h)
+-- one octet more before those that are summed the last first
+number-before : (s : List ℕ) (at next i : ℕ) → next ≡ suc at → at < length s → number (reverse (take (suc i) (drop at s))) ≡ number (reverse (take i (drop next s))) * 256 + getD s at 0
+number-before s at next i e h = rw (e, drop-cons s at 0 h, reverse-cons, number-snoc)
 
--- seven octets or fewer leave room for one more
-pub before-small : (s : List ℕ) (at i : ℕ) → Octets s → i ≤ 7 → number (reverse (take i (drop at s))) < 256 ^ 7
-before-small s at i o h =
-    let t : List ℕ = take i (drop at s) in
-    let e : length (reverse t) ≤ 7 = rw (length-reverse t, length-take) (omega arith) in
-    lt-of-lt-of-le (number-lt (reverse t) (octets-reverse t (octets-take i (drop at s) (octets-drop at s o)))) (pow256-mono (length (reverse t)) 7 e)
+-- eight octets summed the last first
+pub number-eight : (s : List ℕ) (at : ℕ) → at + 8 ≤ length s
+    → number (reverse (take 8 (drop at s))) ≡ ((((((getD s (at + 7) 0 * 256 + getD s (at + 6) 0) * 256 + getD s (at + 5) 0) * 256 + getD s (at + 4) 0) * 256 + getD s (at + 3) 0) * 256 + getD s (at + 2) 0) * 256 + getD s (at + 1) 0) * 256 + getD s at 0
+unfolding number
+number-eight s at h =
+    rw (
+      number-before s at (at + 1) 7 (omega arith) (omega arith),
+      number-before s (at + 1) (at + 2) 6 (omega arith) (omega arith),
+      number-before s (at + 2) (at + 3) 5 (omega arith) (omega arith),
+      number-before s (at + 3) (at + 4) 4 (omega arith) (omega arith),
+      number-before s (at + 4) (at + 5) 3 (omega arith) (omega arith),
+      number-before s (at + 5) (at + 6) 2 (omega arith) (omega arith),
+      number-before s (at + 6) (at + 7) 1 (omega arith) (omega arith),
+      number-before s (at + 7) (at + 8) 0 (omega arith) (omega arith),
+    )
+    (omega arith)
 
 -- the last octet of a turned number is the first that is not stored yet, and the others are those behind it
 pub turn-last : (n x i : ℕ) → i < n → turn (n - i) x % 256 ≡ getD (octets n x) i 0

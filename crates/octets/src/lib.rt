@@ -230,7 +230,7 @@ fn sum_octets(s: &[u8], at: usize, n: usize) -> u64
     x
 }
 
-// Eight octets, turned after they are summed the last first: the compiler makes one load of it.
+// Eight octets, turned after they are summed the last first.
 fn sum_eight(s: &[u8], at: usize) -> u64
     requires { ⌜ at + 8 ≤ length (now s) ⌝ }
     ensures { λ r. ⌜ r ≡ number (take 8 (drop at (now (s .entry)))) ⌝ }
@@ -238,18 +238,20 @@ fn sum_eight(s: &[u8], at: usize) -> u64
     turned(sum_turned(s, at))
 }
 
+// Eight octets, the last counting most. With no loop: the compiler makes one load of it wherever it stands.
 fn sum_turned(s: &[u8], at: usize) -> u64
     requires { ⌜ at + 8 ≤ length (now s) ⌝ }
     ensures { λ r. ⌜ r ≡ number (reverse (take 8 (drop at (now (s .entry))))) ⌝ }
 {
-    let mut x: u64 = 0;
-    let mut i: usize = 0;
-    while i < 8 {
-        let b = s[at + (7 - i)] as u64;
-        x = x * 256 + b;
-        i += 1;
-    }
-    x
+    let a = s[at] as u64;
+    let b = s[at + 1] as u64;
+    let c = s[at + 2] as u64;
+    let d = s[at + 3] as u64;
+    let e = s[at + 4] as u64;
+    let f = s[at + 5] as u64;
+    let g = s[at + 6] as u64;
+    let h = s[at + 7] as u64;
+    ((((((h * 256 + g) * 256 + f) * 256 + e) * 256 + d) * 256 + c) * 256 + b) * 256 + a
 }
 
 // Writes the low octets of a number, as many as its field has, if the area has room for all of them.
