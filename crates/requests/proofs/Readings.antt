@@ -1,6 +1,7 @@
 -- Reading a request: the form of what is read, each operation's body from the value in it, the table of operation types, and the whole request by its parts.
 use Prim.Native.Nat.{ℕ, zero, suc, _+_, _<_, _≤_, zero-le}
 use mathlib.Core.Path.{_≡_, refl, sym, ap, subst, _∙_}
+use mathlib.Core.Logic.{_⊎_, inl, inr, ⊎-elim}
 use mathlib.Core.Bool.{Bool, true, false, _&&_}
 use mathlib.Core.List.{List, [], _∷_}
 use native.Mathlib.Omega.{arith}
@@ -34,7 +35,7 @@ use Rattle.resources.specs.Resource.{Grant, mode, grantOf, grantParts, allocati
 use Rattle.resources.specs.View.{AllocationAt}
 use Rattle.resources.specs.declared.Allocation.{Allocation}
 use Rattle.resources.specs.declared.AllocationRead.the-variants as l
-use Rattle.requests.specs.Command.{Command, kindOf, known}
+use Rattle.requests.specs.Command.{Command, kindOf, known, formAt}
 use Rattle.requests.specs.Command as c
 use Rattle.requests.specs.Request.{Body, bodyOf, requestBody}
 use Rattle.requests.specs.Request as b
@@ -180,6 +181,18 @@ pub decoded-at : {x : Command} {w : Form} {kind : ℕ} {s : List ℕ} {at : ℕ}
     → ((l : List ℕ) → requestBody (kindOf x w) .get l ≡ bodyOf x w .get l) → DecodedAt kind s at r
 decoded-at {x} {w} {kind} {s} {at} e k t = rw k (record { says = rw (t (drop at s)) (e .says); place = e .place })
 
+-- an operation type of the table: its form, and the body that is read for it
+abbrev Row : Command → Form → Type 0
+Row x w = (formAt (kindOf x w) ≡ w) × ((l : List ℕ) → requestBody (kindOf x w) .get l ≡ bodyOf x w .get l)
+
+-- the same of a body that one call reads in either form
+pub decoded-either : {x : Command} {w : Form} {kind : ℕ} {s : List ℕ} {at : ℕ} {r : Decoded} → DecodedAs x w s at r → w ≡ formAt kind
+    → (kind ≡ kindOf x f.Plain) ⊎ (kind ≡ kindOf x f.Password) → Row x f.Plain → Row x f.Password → DecodedAt kind s at r
+decoded-either {x} {w} {kind} {s} {at} {r} e q p t u = ⊎-elim (go f.Plain t) (go f.Password u) p
+  where
+    go : (v : Form) → Row x v → kind ≡ kindOf x v → DecodedAt kind s at r
+    go v t k = let h : w ≡ v = q ∙ ap formAt k ∙ t .0 in decoded-at (rw h at e) k (t .1)
+
 -- a number is none of a list
 abbrev pub Others : ℕ → List ℕ → Type 0
 Others k [] = Unit {0}
@@ -199,6 +212,10 @@ others-rest k m (suc n) l o = others-rest k m n l (o .0)
 others-past : (k m n : ℕ) (l : List ℕ) → Others k (from m n l) → m ≤ k → m + n ≤ k
 others-past k m zero l o h = omega arith
 others-past k m (suc n) l o h = omega (arith, others-past k m n l (o .0) h, o .1)
+
+-- neither of two numbers
+pub neither : {k i j : ℕ} → ((k ≡ i) ⊎ (k ≡ j) → ⊥) → (k ≡ i → ⊥) × (k ≡ j → ⊥)
+neither n = (λ e. n (inl e), λ e. n (inr e))
 
 -- the operation types of the table
 abbrev pub types : List ℕ

@@ -2,6 +2,7 @@
 // The main statement: read_request tells of any octets what specs/Request says they are, and the writers write what it reads back. On octets, tags, lists and
 // resources, by their contracts.
 ghost use mathlib.Core.List.{[]};
+ghost use mathlib.Core.Path.{_≡_};
 ghost use Rattle.octets.specs.Area.{Does};
 ghost use Rattle.tags.specs.Entry.{formOf};
 ghost use Rattle.lists.specs.Handed.{keysOf};
@@ -64,25 +65,34 @@ pub fn read_request(s: &[u8]) -> Request
     }
 }
 
-// The body of an operation type, from a place to the last octet.
+// The body of an operation type, from a place to the last octet. A single operation is read by one call, which the compiler puts here, so that what it returns is not
+// stored and copied; a list by two, in each of which the form is known: its entries are gone over quicker.
 fn read_body(s: &[u8], at: usize, kind: u8) -> Decoded
     ensures { λ r. ⌜ DecodedAt kind (now (s .entry)) at r ⌝ }
 {
+    let form = form_at(kind);
     match kind {
         0 => read_resources(s, at),
-        1 => read_allocate(s, at, Form::Plain),
-        2 => read_free(s, at, Form::Plain),
-        3 => read_read(s, at, Form::Plain),
-        4 => read_write(s, at, Form::Plain),
+        1 | 65 => read_allocate(s, at, form),
+        2 | 66 => read_free(s, at, form),
+        3 | 67 => read_read(s, at, form),
+        4 | 68 => read_write(s, at, form),
         5 => read_bulk_read(s, at, Form::Plain),
         6 => read_bulk_write(s, at, Form::Plain),
-        65 => read_allocate(s, at, Form::Password),
-        66 => read_free(s, at, Form::Password),
-        67 => read_read(s, at, Form::Password),
-        68 => read_write(s, at, Form::Password),
         69 => read_bulk_read(s, at, Form::Password),
         70 => read_bulk_write(s, at, Form::Password),
         7..=64 | 71..=255 => Decoded::Bad(Fault::Other),
+    }
+}
+
+// Whether an operation type is one with a password.
+fn form_at(kind: u8) -> Form
+    ensures { λ r. ⌜ r ≡ c.formAt kind ⌝ }
+{
+    if kind < 65 {
+        Form::Plain
+    } else {
+        Form::Password
     }
 }
 
