@@ -1,20 +1,29 @@
--- Where the program's places lie, what writing and reading do to them, and what a turn does.
-use Prim.Native.Nat.{ℕ, _+_, _-_, _≤_}
+-- Where the program's places are at first and where they lie, what writing and reading do to them, what a turn does, and how many turns are enough.
+use Prim.Native.Nat.{ℕ, _+_, _-_, _*_, _≤_}
 use mathlib.Core.Path.{_≡_}
 use mathlib.Core.Bool.{Bool, true, false}
 use mathlib.Core.List.{List}
 use lib.ListN.{length, take, drop}
 use lib.Dec.{eqb}
 use Rattle.octets.specs.Reading.{pick}
+use Rattle.admission.specs.declared.Head.{Head}
 use Rattle.store.specs.Model.{Shows}
 use Rattle.log.specs.Entry.{Word, wants-more, used-written, closed, refusal, Out}
 use Rattle.gatelog.specs.declared.Place.{Place}
+
+-- at first nothing is read, answered or written, and the program is to go on
+abbrev pub firstPlace : Head → Place
+firstPlace head = record { head = head; answered = 0; start = 0; end = 0; filled = 0; handed = 0; last = false; going = true }
 
 -- the octets at hand lie within the input buffer, the characters not yet written within the output buffer
 pub record Within (p : Place) (input out : List ℕ) : Type 0 where
   pub order : p .start ≤ p .end
   pub inside : p .end ≤ length input
   pub room : p .filled ≤ length out
+
+-- the input buffer holds the longest record, 2,053 octets, and the output buffer the longest line, 4,108 characters: once what waits is written out, there is room for it
+abbrev pub Roomy : List ℕ → List ℕ → Type 0
+Roomy input out = (2053 ≤ length input) × (4108 ≤ length out)
 
 -- the octets at hand
 abbrev pub atHand : Place → List ℕ → List ℕ
@@ -77,3 +86,10 @@ pub record TurnTaken (o : Out) (p r : Place) (old new out table pool : List ℕ)
   pub places : Moved (o .word) p r old new
   pub lines : out ≡ o .area
   pub unit : Shows (o .unit) (r .head) table pool
+
+-- ---- the turns of a run
+
+-- No run takes more turns than these. A turn that reads gets an octet or finds the end, so that a record takes at most 2,054 turns: 2,053 that read, and one that answers
+-- it. Before each of them at most one writes out what waits. There are at most 4,294,967,295 records, and what is behind them ends the log in no more turns than a record.
+abbrev pub enoughTurns : ℕ
+enoughTurns = 4294967296 * (2 * 2054)

@@ -8,7 +8,7 @@ ghost use lib.Seq.{sets};
 ghost use Rattle.store.specs.Model.{State, Shows, Sound};
 ghost use Rattle.log.specs.Output.{firstUnit};
 ghost use Rattle.log.specs.Entry.{stepOut};
-ghost use Rattle.gatelog.specs.Place.{Within, atHand, Emptied, Tried, Refilled, TurnTaken};
+ghost use Rattle.gatelog.specs.Place.{firstPlace, Within, Roomy, enoughTurns, atHand, Emptied, Tried, Refilled, TurnTaken};
 use admission::Head;
 use log::Turn;
 use store::Start;
@@ -25,6 +25,22 @@ struct Place {
     handed: usize,
     last: bool,
     going: bool,
+}
+
+// At first nothing is read, answered or written.
+fn first_place(head: Head) -> Place
+    ensures { λ r. ⌜ r ≡ firstPlace head ⌝ }
+{
+    Place {
+        head,
+        answered: 0,
+        start: 0,
+        end: 0,
+        filled: 0,
+        handed: 0,
+        last: false,
+        going: true,
+    }
 }
 
 // Writes what is not yet written.
@@ -84,7 +100,7 @@ fn go_on(
 ) -> Place
     requires { ⌜ Sound (place .head) (now table) (now pool) ⌝ }
     requires { ⌜ Within place (now input) (now out) ⌝ }
-    requires { ⌜ 2053 ≤ length (now input) ⌝ }
+    requires { ⌜ Roomy (now input) (now out) ⌝ }
     ensures { λ r. ⌜ Sound (r .head) (now (table .exit)) (now (pool .exit)) × Within r (now (input .exit)) (now (out .exit)) ⌝ }
     ensures { λ r. ⌜ ((u : State) → Shows u (place .head) (now (table .entry)) (now (pool .entry))
         → TurnTaken (stepOut u (place .answered) (place .last) (atHand place (now (input .entry))) (now (out .entry)) (place .filled)) place r
@@ -130,22 +146,20 @@ fn go_on(
     }
 }
 
-// A proved loop has to end, and nothing says that the input does: it has more turns than any run uses up.
-fn run(head: Head, table: &mut [u64], pool: &mut [u8], input: &mut [u8], out: &mut [u8])
+// A proved loop has to end, and nothing says that the input does: it has as many turns as any run takes (specs/Place, `enoughTurns`), or more.
+fn run(
+    head: Head,
+    table: &mut [u64],
+    pool: &mut [u8],
+    input: &mut [u8],
+    out: &mut [u8],
+    mut turns: u64,
+)
     requires { ⌜ Shows firstUnit head (now table) (now pool) ⌝ }
-    requires { ⌜ 2053 ≤ length (now input) ⌝ }
+    requires { ⌜ Roomy (now input) (now out) ⌝ }
+    requires { ⌜ enoughTurns ≤ turns ⌝ }
 {
-    let mut place = Place {
-        head,
-        answered: 0,
-        start: 0,
-        end: 0,
-        filled: 0,
-        handed: 0,
-        last: false,
-        going: true,
-    };
-    let mut turns = u64::MAX;
+    let mut place = first_place(head);
     while turns > 0 && place.going {
         place = go_on(place, table, pool, input, out);
         turns -= 1;
@@ -161,5 +175,5 @@ fn main() {
     };
     let mut input = io::large_buffer();
     let mut out = io::large_buffer();
-    run(head, &mut table, &mut pool, &mut input, &mut out);
+    run(head, &mut table, &mut pool, &mut input, &mut out, u64::MAX);
 }

@@ -40,7 +40,7 @@ slice-aggregate-run-4 : tie.Need-slice-aggregate-run-4
 slice-aggregate-run-4 c = search needs
 
 run-requires : tie.Need-run-requires
-run-requires c κs = (start-sound _ 1 true true _ _ (rw (c .before .before .before .before .before .before .before .head .given .1) at (c .before .before .before .before .before .before .before .before .before .start .ensures)) (omega arith) (c .before .before .before .before .before .before .before .before .before .before .before .before .new .ensures), omega (arith, c .before .before .before .before .before .large-buffer .ensures))
+run-requires c κs = (start-sound _ 1 true true _ _ (rw (c .before .before .before .before .before .before .before .head .given .1) at (c .before .before .before .before .before .before .before .before .before .start .ensures)) (omega arith) (c .before .before .before .before .before .before .before .before .before .before .before .before .new .ensures), (omega (arith, c .before .before .before .before .before .large-buffer .ensures), omega arith))
 
 returns-2 : tie.Need-returns-2
 returns-2 c = tt

@@ -1,22 +1,25 @@
 -- `run`: the unit stays sound and the places stay within their buffers. It ends because each turn leaves one fewer.
 use mathlib.Core.Path.{_≡_, refl, _∙_}
-use Prim.Native.Nat.{_≤_}
 use native.Mathlib.Omega.{arith}
 use lib.ListN.{length}
 use Rattle.store.specs.Model.{Sound}
-use Rattle.gatelog.specs.Place.{Within}
+use Rattle.gatelog.specs.Place.{Within, Roomy}
 use Rattle.log.specs.Output.{firstUnit}
 use Rattle.gatelog.proofs.run.Statement.{statement}
 use Rattle.gatelog.proofs.run.Tie as tie
 
 abbrev Inv-loop : tie.InvT-loop
-Inv-loop table₀ pool₀ input₀ out₀ place₀ turns₀ table pool input out place turns = Sound (place .head) table pool × Within place input out × (2053 ≤ length input) × (length table ≡ length table₀) × (length pool ≡ length pool₀) × (length input ≡ length input₀) × (length out ≡ length out₀)
+Inv-loop table₀ pool₀ input₀ out₀ turns₀ place₀ table pool input out turns place = Sound (place .head) table pool × Within place input out × Roomy input out × (length table ≡ length table₀) × (length pool ≡ length pool₀) × (length input ≡ length input₀) × (length out ≡ length out₀)
 
 abbrev μ-loop : tie.MeasureT-loop
-μ-loop table₀ pool₀ input₀ out₀ place₀ turns₀ table pool input out place turns = turns
+μ-loop table₀ pool₀ input₀ out₀ turns₀ place₀ table pool input out turns place = turns
+
+first-place-requires : tie.Need-first-place-requires Inv-loop μ-loop
+first-place-requires c κs = tt
 
 loop-holds : tie.Need-loop-holds Inv-loop μ-loop
-loop-holds c = (record { unit = firstUnit; shown = c .before .before .before .before .pre .0 }, record { order = omega arith; inside = omega arith; room = omega arith }, c .before .before .before .before .pre .1, refl, refl, refl, refl)
+loop-holds c = let f = c .before .before .before .before .before in
+    rw (c .first-place .ensures) (record { unit = firstUnit; shown = f .pre .0 }, record { order = omega arith; inside = omega arith; room = omega arith }, f .pre .1 .0, refl, refl, refl, refl)
 
 go-on-requires : tie.Need-go-on-requires Inv-loop μ-loop
 go-on-requires c κs = let v = c .before .before .before .before .before .before .loop .inv in (v .0, (v .1, v .2))
@@ -68,6 +71,7 @@ run-spec =
     (tie.spec
     Inv-loop
     μ-loop
+    first-place-requires
     loop-holds
     go-on-requires
     sub-turns
