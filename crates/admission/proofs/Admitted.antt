@@ -1,11 +1,10 @@
 -- What a verdict of `admission` tells of the operation, and where a verdict is given. The crates above use these laws and do not open the definition.
 use Prim.Native.Nat.{ℕ, _+_, _≤_, _<_}
-use mathlib.Core.Bool.{Bool, true, false, not}
+use mathlib.Core.Bool.{Bool, true, false, not, cond}
 use mathlib.Core.Logic.{_⊎_, inl, inr}
 use mathlib.Core.Path.{_≡_, refl, sym, ap, _∙_}
 use lib.Dec.{eqb, leb, ltb}
 use borrow.Author.Tests.{ltb-true, ltb-false, leb-true, leb-false, lt-ltb, le-ltb, le-leb, lt-leb, not-false}
-use Rattle.octets.specs.Reading.{pick}
 use Rattle.octets.specs.declared.Access.{Access}
 use Rattle.octets.specs.declared.Port.{Port}
 use Rattle.octets.specs.declared.Port.the-variants.{Normal, Secure}
@@ -27,7 +26,7 @@ last Allowed = true
 last (Denied d) = eqb d 5
 
 -- a test with another number than the verdict's was passed
-passed : (b : Bool) (d : ℕ) (x v : Verdict) → eqb d 5 ≡ false → last v ≡ true → pick b (Denied d) x ≡ v → (b ≡ false) × (x ≡ v)
+passed : (b : Bool) (d : ℕ) (x v : Verdict) → eqb d 5 ≡ false → last v ≡ true → cond b (Denied d) x ≡ v → (b ≡ false) × (x ≡ v)
 passed true d x v n l e = absurd (false-true (sym n ∙ ap last e ∙ l))
 passed false d x v n l e = (refl, e)
 
@@ -36,7 +35,7 @@ abbrev isDenied : Verdict → Bool
 isDenied Allowed = false
 isDenied (Denied d) = true
 
-decided : (b : Bool) (v : Verdict) → pick b (Denied 5) Allowed ≡ v → b ≡ isDenied v
+decided : (b : Bool) (v : Verdict) → cond b (Denied 5) Allowed ≡ v → b ≡ isDenied v
 decided true v e = ap isDenied e
 decided false v e = ap isDenied e
 
@@ -63,7 +62,7 @@ passed-all h k w p a v l e =
     record { tag = t .0; option = o .0; port = q .0; password = c .0; mode = m .0; size = s .0; room = decided (roomBars h w) v (s .1) }
 
 -- where either of two tests would bar, neither does
-neither : (b c : Bool) → pick b true c ≡ false → (b ≡ false) × (c ≡ false)
+neither : (b c : Bool) → cond b true c ≡ false → (b ≡ false) × (c ≡ false)
 neither true c e = absurd (false-true (sym e))
 neither false c e = (refl, e)
 
@@ -135,7 +134,7 @@ roomy h size s = rw (lt-leb (h .limits .tags) (h .count) (s .few), le-ltb (h .li
 lacking : (h : Head) (size : ℕ) → noRoom h size ≡ true → NoRoom h size
 lacking h size e = go (leb (h .limits .tags) (h .count)) refl e
   where
-    go : (b : Bool) → leb (h .limits .tags) (h .count) ≡ b → pick b true (ltb (h .limits .memory) (h .used + size)) ≡ true → NoRoom h size
+    go : (b : Bool) → leb (h .limits .tags) (h .count) ≡ b → cond b true (ltb (h .limits .memory) (h .used + size)) ≡ true → NoRoom h size
     go true q r = inl (leb-true _ _ q)
     go false q r = inr (ltb-true _ _ r)
 
@@ -144,7 +143,7 @@ barring : (h : Head) (size : ℕ) → NoRoom h size → noRoom h size ≡ true
 barring h size (inl q) = rw (le-leb (h .limits .tags) (h .count) q)
 barring h size (inr q) = rw (lt-ltb (h .limits .memory) (h .used + size) q) (go (leb (h .limits .tags) (h .count)))
   where
-    go : (b : Bool) → pick b true true ≡ true
+    go : (b : Bool) → cond b true true ≡ true
     go true = refl
     go false = refl
 
@@ -264,46 +263,46 @@ module _ (h : Head) (p : Port) (a : Access) where
 
   -- "Free: 6 if not registered or unit-managed; 11 if SPF is required and the port is normal; 10 for password."
   pub free-lines : (t : Attributes) → admission h (Tag t) Free p a
-      ≡ pick (unitManaged (t .tag)) (Denied 6)
-      (pick (portBars (Tag t) p) (Denied 11)
-      (pick (passwordBars (Tag t) a) (Denied 10) Allowed))
+      ≡ cond (unitManaged (t .tag)) (Denied 6)
+      (cond (portBars (Tag t) p) (Denied 11)
+      (cond (passwordBars (Tag t) a) (Denied 10) Allowed))
   unfolding admission
   free-lines t = rw (free-in-any (t .mode))
 
   -- "Read: 6, 11, 10, then 8 if write only."
   pub read-lines : (t : Attributes) → admission h (Tag t) Read p a
-      ≡ pick (portBars (Tag t) p) (Denied 11)
-      (pick (passwordBars (Tag t) a) (Denied 10)
-      (pick (useBars (t .mode) Read) (Denied 8) Allowed))
+      ≡ cond (portBars (Tag t) p) (Denied 11)
+      (cond (passwordBars (Tag t) a) (Denied 10)
+      (cond (useBars (t .mode) Read) (Denied 8) Allowed))
   unfolding admission
   read-lines t = refl
 
   -- "Write: 6, 11, 10, 8 if read only, then 9 if the data is longer than the area."
   pub write-lines : (t : Attributes) (n : ℕ) → admission h (Tag t) (Write n) p a
-      ≡ pick (portBars (Tag t) p) (Denied 11)
-      (pick (passwordBars (Tag t) a) (Denied 10)
-      (pick (useBars (t .mode) (Write n)) (Denied 8)
-      (pick (ltb (t .size) n) (Denied 9) Allowed)))
+      ≡ cond (portBars (Tag t) p) (Denied 11)
+      (cond (passwordBars (Tag t) a) (Denied 10)
+      (cond (useBars (t .mode) (Write n)) (Denied 8)
+      (cond (ltb (t .size) n) (Denied 9) Allowed)))
   unfolding admission
   write-lines t n = refl
 
   -- "Allocate: 6 if the tag is unit-managed or registered; 9 if the size is not 1 to 1,024; 5 if 32 tags exist or the sizes of all areas plus the new one exceed 8,192."
   pub allocate-lines : (k : Known) (new : Attributes) → admission h k (Allocate new) p a
-      ≡ pick (isTag k) (Denied 6)
-      (pick (unitManaged (new .tag)) (Denied 6)
-      (pick (badSize (h .limits .area) (new .size)) (Denied 9)
-      (pick (noRoom h (new .size)) (Denied 5) Allowed)))
+      ≡ cond (isTag k) (Denied 6)
+      (cond (unitManaged (new .tag)) (Denied 6)
+      (cond (badSize (h .limits .area) (new .size)) (Denied 9)
+      (cond (noRoom h (new .size)) (Denied 5) Allowed)))
   unfolding admission
   allocate-lines (Tag t) new = refl
   allocate-lines Nothing new = refl
 
   -- Fitting: "6 if the tag is not unit-managed or is registered; 12 if it has a password and passwords are not fitted; 9 for a bad size or data longer than it; 5 as above."
   pub fit-lines : (k : Known) (new : Attributes) (n : ℕ) → admission h k (Fit new n) p a
-      ≡ pick (isTag k) (Denied 6)
-      (pick (not (unitManaged (new .tag))) (Denied 6)
-      (pick (lockUnfitted (h .passwords) (new .lock)) (Denied 12)
-      (pick (pick (badSize (h .limits .area) (new .size)) true (ltb (new .size) n)) (Denied 9)
-      (pick (noRoom h (new .size)) (Denied 5) Allowed))))
+      ≡ cond (isTag k) (Denied 6)
+      (cond (not (unitManaged (new .tag))) (Denied 6)
+      (cond (lockUnfitted (h .passwords) (new .lock)) (Denied 12)
+      (cond (cond (badSize (h .limits .area) (new .size)) true (ltb (new .size) n)) (Denied 9)
+      (cond (noRoom h (new .size)) (Denied 5) Allowed))))
   unfolding admission
   fit-lines (Tag t) new n = refl
   fit-lines Nothing new n = refl
@@ -311,7 +310,7 @@ module _ (h : Head) (p : Port) (a : Access) where
   -- ---- a password that is not the tag's
 
   -- the verdict is one of 6, 11 and 10: mode, sizes and room are not looked at
-  pub lock-decides : (t : Attributes) (w : Want) → lockBars (t .lock) a ≡ true → admission h (Tag t) w p a ≡ pick (tagBars (Tag t) w) (Denied 6) (pick (portBars (Tag t) p) (Denied 11) (Denied 10))
+  pub lock-decides : (t : Attributes) (w : Want) → lockBars (t .lock) a ≡ true → admission h (Tag t) w p a ≡ cond (tagBars (Tag t) w) (Denied 6) (cond (portBars (Tag t) p) (Denied 11) (Denied 10))
   unfolding admission
   lock-decides t (Allocate new) b = refl
   lock-decides t (Fit new n) b = refl

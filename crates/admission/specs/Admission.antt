@@ -1,9 +1,8 @@
 -- Who may do what with a tag. Document 01, 'Denials and their order': the first line that applies decides. One order of the tests, 6, 12, 11, 10, 8, 9, 5,
 -- is that of every operation. They look at what is fixed of the tag, at port, password and sizes; there are no stored octets to look at.
 use Prim.Native.Nat.{ℕ, _+_, _/_, _%_, _^_}
-use mathlib.Core.Bool.{Bool, true, false, not}
+use mathlib.Core.Bool.{Bool, true, false, not, cond}
 use lib.Dec.{eqb, leb, ltb}
-use Rattle.octets.specs.Reading.{pick}
 use Rattle.octets.specs.declared.Access.{Access}
 use Rattle.octets.specs.declared.Access.the-variants.{Plain, Password}
 use Rattle.octets.specs.declared.Port.{Port}
@@ -85,12 +84,12 @@ modeBars (Tag t) w = useBars (t .mode) w
 
 -- "the size is not 1 to 1,024": below 1, or above the greatest area of the kind
 abbrev pub badSize : ℕ → ℕ → Bool
-badSize area size = pick (ltb size 1) true (ltb area size)
+badSize area size = cond (ltb size 1) true (ltb area size)
 
 -- 9. Allocate: "if the size is not 1 to 1,024". Fitting: "for a bad size or data longer than it". Write: "if the data is longer than the area"
 abbrev pub sizeBars : ℕ → Known → Want → Bool
 sizeBars area k (Allocate new) = badSize area (new .size)
-sizeBars area k (Fit new n) = pick (badSize area (new .size)) true (ltb (new .size) n)
+sizeBars area k (Fit new n) = cond (badSize area (new .size)) true (ltb (new .size) n)
 sizeBars area k Free = false
 sizeBars area k Read = false
 sizeBars area Nothing (Write n) = false
@@ -98,7 +97,7 @@ sizeBars area (Tag t) (Write n) = ltb (t .size) n
 
 -- 5. Allocate: "if 32 tags exist or the sizes of all areas plus the new one exceed 8,192". Fitting: "5 as above"
 abbrev pub noRoom : Head → ℕ → Bool
-noRoom h size = pick (leb (h .limits .tags) (h .count)) true (ltb (h .limits .memory) (h .used + size))
+noRoom h size = cond (leb (h .limits .tags) (h .count)) true (ltb (h .limits .memory) (h .used + size))
 
 -- of every want: "5 is given in no other case"
 abbrev pub roomBars : Head → Want → Bool
@@ -111,10 +110,10 @@ roomBars h (Write n) = false
 -- "The first line that applies decides." What becomes of a want, by what the unit knows of the tag, the port by which the command came, and how it shows its right
 unfoldable pub admission : Head → Known → Want → Port → Access → Verdict
 admission h k w p a =
-    pick (tagBars k w) (Denied 6)
-    (pick (optionBars (h .passwords) w) (Denied 12)
-    (pick (portBars k p) (Denied 11)
-    (pick (passwordBars k a) (Denied 10)
-    (pick (modeBars k w) (Denied 8)
-    (pick (sizeBars (h .limits .area) k w) (Denied 9)
-    (pick (roomBars h w) (Denied 5) Allowed))))))
+    cond (tagBars k w) (Denied 6)
+    (cond (optionBars (h .passwords) w) (Denied 12)
+    (cond (portBars k p) (Denied 11)
+    (cond (passwordBars k a) (Denied 10)
+    (cond (modeBars k w) (Denied 8)
+    (cond (sizeBars (h .limits .area) k w) (Denied 9)
+    (cond (roomBars h w) (Denied 5) Allowed))))))

@@ -1,8 +1,7 @@
 -- A mode and SPF as one number: the mode codes of the tables. Five zero bits, SPF required, writing prohibited, reading prohibited.
 use Prim.Native.Nat.{ℕ, _-_}
-use mathlib.Core.Bool.{Bool, true, false}
+use mathlib.Core.Bool.{Bool, true, false, cond}
 use lib.Dec.{eqb, leb}
-use Rattle.octets.specs.Reading.{pick}
 use Rattle.admission.specs.declared.Mode.{Mode}
 use Rattle.admission.specs.declared.Mode.the-variants.{Both, ReadOnly, WriteOnly}
 
@@ -21,8 +20,8 @@ codeSpf w = leb 4 w
 
 -- the mode of a code without SPF
 abbrev pub lowMode : ℕ → Mode
-lowMode w = pick (eqb w 1) WriteOnly (pick (eqb w 2) ReadOnly Both)
+lowMode w = cond (eqb w 1) WriteOnly (cond (eqb w 2) ReadOnly Both)
 
 -- the mode of a code of the tables. What is no code of theirs is read as both; it is never kept
 abbrev pub codeMode : ℕ → Mode
-codeMode w = lowMode (pick (leb 4 w) (w - 4) w)
+codeMode w = lowMode (cond (leb 4 w) (w - 4) w)

@@ -1,13 +1,13 @@
 -- The theorems about answers and the denial that docs/PROOFS.md names.
 use Prim.Native.Nat.{ℕ, _≤_}
 use mathlib.Core.Path.{_≡_, refl, sym, ap, _∙_}
-use mathlib.Core.Bool.{Bool, true, false}
+use mathlib.Core.Bool.{Bool, true, false, cond}
 use mathlib.Core.List.{List, [], append-nil}
 use native.Mathlib.Omega.{arith}
 use lib.ListN.{length, getD, take}
 use lib.Dec.{ltb}
 use borrow.Author.Tests.{le-ltb, ltb-false}
-use Rattle.octets.specs.Reading.{Read, bad, ok, pick, andThen, atEnd, told, message, Octets}
+use Rattle.octets.specs.Reading.{Read, bad, ok, andThen, atEnd, told, message, Octets}
 use Rattle.octets.specs.Frame.{Message, decode, encode, opening}
 use Rattle.octets.specs.declared.Fault.the-variants.{Other}
 use Rattle.octets.proofs.Places.{bad-ok, ok-val, ok-rest, told-ok, went, end-back}
@@ -57,11 +57,11 @@ answer-back : (s : List ℕ) (a : Answer) → Octets s → answerRead s ≡ ok a
 unfolding answerRead
 answer-back s a o e = go (ltb 2048 (length s)) refl e
   where
-    kind : length s ≤ 2048 → (b : Bool) → pick b (andThen (atEnd (denial .get s)) (λ d r. ok (denied d) r)) (andThen (decode answerBody s) (λ m r. ok (accepted m) r)) ≡ ok a [] → (s ≡ answerOctets a) × (answerWritable a ≡ true)
+    kind : length s ≤ 2048 → (b : Bool) → cond b (andThen (atEnd (denial .get s)) (λ d r. ok (denied d) r)) (andThen (decode answerBody s) (λ m r. ok (accepted m) r)) ≡ ok a [] → (s ≡ answerOctets a) × (answerWritable a ≡ true)
     kind h true g = let w = went (atEnd (denial .get s)) (λ d r. ok (denied d) r) a [] g in denied-back s a (w .val) (w .rest) o (w .first) (w .then)
     kind h false g = let w = went (decode answerBody s) (λ m r. ok (accepted m) r) a [] g in accepted-back s a (w .val) (w .rest) o h (w .first) (w .then)
 
-    go : (b : Bool) → ltb 2048 (length s) ≡ b → pick b (bad Other) (decodeAnswer s) ≡ ok a [] → (s ≡ answerOctets a) × (answerWritable a ≡ true)
+    go : (b : Bool) → ltb 2048 (length s) ≡ b → cond b (bad Other) (decodeAnswer s) ≡ ok a [] → (s ≡ answerOctets a) × (answerWritable a ≡ true)
     go true f g = absurd (bad-ok g)
     go false f g = kind (ltb-false _ _ f) (isDenial s) g
 
@@ -70,7 +70,7 @@ answer-whole : (s : List ℕ) (a : Answer) (r : List ℕ) → answerRead s ≡ o
 unfolding answerRead
 answer-whole s a r e = go (ltb 2048 (length s)) refl e
   where
-    kind : length s ≤ 2048 → (b : Bool) → pick b (andThen (atEnd (denial .get s)) (λ d t. ok (denied d) t)) (andThen (decode answerBody s) (λ m t. ok (accepted m) t)) ≡ ok a r → r ≡ []
+    kind : length s ≤ 2048 → (b : Bool) → cond b (andThen (atEnd (denial .get s)) (λ d t. ok (denied d) t)) (andThen (decode answerBody s) (λ m t. ok (accepted m) t)) ≡ ok a r → r ≡ []
     kind h true g =
         let w = went (atEnd (denial .get s)) (λ d t. ok (denied d) t) a r g in
         sym (ok-rest (w .then)) ∙ end-back (denial .get s) (w .val) (w .rest) (w .first) .1
@@ -78,7 +78,7 @@ answer-whole s a r e = go (ltb 2048 (length s)) refl e
         let w = went (decode answerBody s) (λ m t. ok (accepted m) t) a r g in
         sym (ok-rest (w .then)) ∙ read-whole answerBody answer-lawful s (w .val) (w .rest) (receive-all answerBody answer-lawful s h ∙ w .first)
 
-    go : (b : Bool) → ltb 2048 (length s) ≡ b → pick b (bad Other) (decodeAnswer s) ≡ ok a r → r ≡ []
+    go : (b : Bool) → ltb 2048 (length s) ≡ b → cond b (bad Other) (decodeAnswer s) ≡ ok a r → r ≡ []
     go true f g = absurd (bad-ok g)
     go false f g = kind (ltb-false _ _ f) (isDenial s) g
 

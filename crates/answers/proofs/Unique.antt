@@ -1,12 +1,13 @@
 -- The promise of the reader of answers leaves one answer: any two that it allows are equal. It is `Understood`: what an answer says of the octets, and that its span or
 -- list ends with them, tell it from every other answer. The promises of the writers are `Does`: does-unique of octets speaks of them.
+use mathlib.Core.Bool.{cond}
 use Prim.Native.Nat.{ℕ, _+_, _-_, _<_}
 use mathlib.Core.Path.{_≡_, refl, sym, ap, _∙_}
 use mathlib.Core.List.{List}
 use native.Mathlib.Omega.{arith}
 use lib.Dec.{leb}
 use borrow.Author.Tests.{le-leb, lt-leb}
-use Rattle.octets.specs.Reading.{pick, Octets, Told, message, refused}
+use Rattle.octets.specs.Reading.{Octets, Told, message, refused}
 use Rattle.octets.specs.declared.Form.{Form}
 use Rattle.octets.specs.declared.Form.the-variants as f
 use Rattle.octets.proofs.Spans.{spanAt, listAt, span-is, list-is}
@@ -27,7 +28,7 @@ use Rattle.answers.specs.declared.Reply.the-variants as r
 
 -- whether a request was plain, by the answer's type
 abbrev answerForm : ℕ → Form
-answerForm kind = pick (leb 193 kind) f.Password f.Plain
+answerForm kind = cond (leb 193 kind) f.Password f.Plain
 
 abbrev placedGiven : List ℕ → ℕ → Body → Given
 placedGiven s kind (b.resourceInformation x) = g.Resources (x .0) (listAt resource s (x .1))

@@ -1,10 +1,10 @@
 -- The answers (document 01, 'Messages'): the answer's type is the request's plus 128; none carries a password. And the denial.
 use Prim.Native.Nat.{ℕ, _+_, _-_}
-use mathlib.Core.Bool.{Bool, _&&_}
+use mathlib.Core.Bool.{Bool, _&&_, cond}
 use mathlib.Core.List.{List, []}
 use lib.ListN.{length, getD}
 use lib.Dec.{ltb, leb, eqb}
-use Rattle.octets.specs.Reading.{Read, bad, ok, pick, andThen, atEnd}
+use Rattle.octets.specs.Reading.{Read, bad, ok, andThen, atEnd}
 use Rattle.octets.specs.Layout.{Layout, listOf, allowed}
 use Rattle.octets.specs.Area.{Outcome, written, described}
 use Rattle.octets.specs.Frame.{Message, decode, encode, writable}
@@ -97,11 +97,11 @@ isDenial s = eqb (getD s 1 0) 255
 
 -- "a denial (any status, supplement up to 127 octets)" or "an answer to one of the 13 operation types in the layouts above"
 abbrev pub decodeAnswer : List ℕ → Read Answer
-decodeAnswer s = pick (isDenial s) (andThen (atEnd (denial .get s)) (λ d r. ok (denied d) r)) (andThen (decode answerBody s) (λ m r. ok (accepted m) r))
+decodeAnswer s = cond (isDenial s) (andThen (atEnd (denial .get s)) (λ d r. ok (denied d) r)) (andThen (decode answerBody s) (λ m r. ok (accepted m) r))
 
 -- the answer that octets are; a fault "if the octets are over 2,048"
 unfoldable pub answerRead : List ℕ → Read Answer
-answerRead s = pick (ltb 2048 (length s)) (bad Other) (decodeAnswer s)
+answerRead s = cond (ltb 2048 (length s)) (bad Other) (decodeAnswer s)
 
 -- an answer of that version, to a request that was plain or with passwords
 abbrev pub answer : ℕ → Form → Body → Message Body

@@ -1,14 +1,13 @@
 -- A refusal touches nothing: where a function's promise allows a negative number, it leaves every slice as it was.
 use Prim.Native.Nat.{ℕ}
 use mathlib.Core.Path.{_≡_, refl, _∙_}
-use mathlib.Core.Bool.{Bool, true, false}
+use mathlib.Core.Bool.{Bool, true, false, cond}
 use mathlib.Core.List.{List, _++_}
 use native.Mathlib.Omega.{arith}
 use lib.IntN.{ℤ, negsuc}
 use lib.ListN.{length, drop}
 use lib.Dec.{ltb}
 use Rattle.octets.specs.Area.{Outcome, done, refused, written, described}
-use Rattle.octets.specs.Reading.{pick}
 use Rattle.octets.specs.declared.Access.{Access}
 use Rattle.octets.specs.declared.Form.{Form}
 use Rattle.octets.specs.declared.Port.the-variants.{Secure}
@@ -94,7 +93,7 @@ gives-leaves (done n, x) old h d k q = absurd (well-not (d .says) q)
 gives-leaves (refused n, x) old h d k q = d .area ∙ h n refl
 
 -- one that is picked from two
-pick-leaves : (b : Bool) (o p : Outcome × List ℕ) (old : List ℕ) → Leaves o old → Leaves p old → Leaves (pick b o p) old
+pick-leaves : (b : Bool) (o p : Outcome × List ℕ) (old : List ℕ) → Leaves o old → Leaves p old → Leaves (cond b o p) old
 pick-leaves true o p old h g = h
 pick-leaves false o p old h g = g
 

@@ -1,14 +1,14 @@
 -- No message is longer than 2,048 octets, so that its length can be told: of what a writer writes, and of what the responder answers.
 use Prim.Native.Nat.{ℕ, _≤_}
 use mathlib.Core.Path.{_≡_, refl}
-use mathlib.Core.Bool.{Bool, true, false}
+use mathlib.Core.Bool.{Bool, true, false, cond}
 use mathlib.Core.List.{List, _++_}
 use native.Mathlib.Omega.{arith}
 use lib.ListN.{length, drop, length-append}
 use lib.Dec.{ltb}
 use Rattle.octets.specs.Area.{Outcome, done, refused, written, described, Does}
 use Rattle.octets.specs.Frame.{Message, opening, openable, encode, writable}
-use Rattle.octets.specs.Reading.{pick, Octets}
+use Rattle.octets.specs.Reading.{Octets}
 use Rattle.octets.specs.declared.Form.{Form}
 use Rattle.octets.specs.declared.Port.{Port}
 use Rattle.octets.specs.declared.Written.{Written}
@@ -43,7 +43,7 @@ written-short b m old new w.NoRoom h d = tt
 written-short false m old new (w.Done n) h d = let e : done n ≡ refused 16 = d .says in let z : _≡_ {A = ℕ} 0 1 = cc in absurd (omega arith)
 written-short true m old new (w.Done n) h d = go (ltb (length old) (length m)) (d .says)
   where
-    go : (t : Bool) → done n ≡ pick {A = Outcome × List ℕ} t (refused 300, old) (done (length m), m ++ drop (length m) old) .0 → n ≤ 2048
+    go : (t : Bool) → done n ≡ cond {A = Outcome × List ℕ} t (refused 300, old) (done (length m), m ++ drop (length m) old) .0 → n ≤ 2048
     go true e = let z : _≡_ {A = ℕ} 0 1 = cc in absurd (omega arith)
     go false e = let z : n ≡ length m = cc in omega (arith, h refl)
 

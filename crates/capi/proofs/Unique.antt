@@ -2,12 +2,12 @@
 -- start, respond and fit leave is what respond and fit ask (`Kept`).
 use Prim.Native.Nat.{ℕ}
 use mathlib.Core.Path.{_≡_, refl, sym, ap, _∙_}
-use mathlib.Core.Bool.{Bool, true, false}
+use mathlib.Core.Bool.{Bool, true, false, cond}
 use mathlib.Core.List.{List}
 use lib.IntN.{ℤ}
 use lib.Dec.{ltb}
 use Rattle.octets.specs.Area.{Outcome}
-use Rattle.octets.specs.Reading.{Octets, pick}
+use Rattle.octets.specs.Reading.{Octets}
 use Rattle.tags.specs.declared.Key.{Key}
 use Rattle.tags.specs.declared.Memory.{Memory}
 use Rattle.tags.proofs.Unique.{key-unique, memory-unique}
@@ -44,7 +44,7 @@ pub none-lent : (b : Bool) (n : ℕ) (x : Slices) → barredBy b n x ≡ none �
 none-lent true n x e = absurd (not-none e)
 none-lent false n x e = go (lent x) e
   where
-    go : (t : Bool) → pick t none (number 300) ≡ none → t ≡ true
+    go : (t : Bool) → cond t none (number 300) ≡ none → t ≡ true
     go true q = refl
     go false q = absurd (not-none q)
 

@@ -1,7 +1,7 @@
 -- Slices and the unit that they stand for: the lines that look at no unit, a start, and what respond and fit leave.
 use Prim.Native.Nat.{ℕ, _<_}
 use mathlib.Core.Path.{_≡_, refl, sym, ap, _∙_}
-use mathlib.Core.Bool.{Bool, true, false, not, _&&_}
+use mathlib.Core.Bool.{Bool, true, false, not, _&&_, cond}
 use mathlib.Core.List.{List, []}
 use native.Mathlib.Omega.{arith}
 use lib.IntN.{ℤ}
@@ -10,7 +10,6 @@ use lib.ListN.{length, getD, replicate}
 use borrow.Author.Tests.{eqb-true, ltb-false, not-true, not-false}
 use Rattle.octets.specs.Area.{done, refused}
 use Rattle.octets.specs.Number.{bare}
-use Rattle.octets.specs.Reading.{pick}
 use Rattle.octets.specs.declared.Access.{Access}
 use Rattle.octets.specs.declared.Port.{Port}
 use Rattle.octets.specs.declared.Port.the-variants.{Secure}
@@ -72,7 +71,7 @@ begun-refused : (v : ℕ) (a p : Bool) → begun s.Refused ≡ started firstKind
 unfolding started
 begun-refused v a p e = go (ltb 15 v) e
   where
-    go : (t : Bool) → unmade 301 ≡ pick t (unmade 301) (made (headOf (newUnit firstKind v a p))) → t ≡ true
+    go : (t : Bool) → unmade 301 ≡ cond t (unmade 301) (made (headOf (newUnit firstKind v a p))) → t ≡ true
     go true q = refl
     go false q = let z : _≡_ {A = ℕ} 0 1 = cc in absurd (omega arith)
 
@@ -80,7 +79,7 @@ begun-made : (h : Head) (v : ℕ) (a p : Bool) → begun (s.Made h) ≡ started 
 unfolding started
 begun-made h v a p e = go (ltb 15 v) e
   where
-    go : (t : Bool) → made h ≡ pick t (unmade 301) (made (headOf (newUnit firstKind v a p))) → (t ≡ false) × (h ≡ headOf (newUnit firstKind v a p))
+    go : (t : Bool) → made h ≡ cond t (unmade 301) (made (headOf (newUnit firstKind v a p))) → (t ≡ false) × (h ≡ headOf (newUnit firstKind v a p))
     go true q = let z : _≡_ {A = ℕ} 0 1 = cc in absurd (omega arith)
     go false q = (refl, cc)
 

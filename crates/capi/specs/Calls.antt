@@ -2,13 +2,12 @@
 -- the unit's memory is tested first.
 use Prim.Native.Nat.{ℕ}
 use mathlib.Core.Path.{_≡_}
-use mathlib.Core.Bool.{Bool, true, false}
+use mathlib.Core.Bool.{Bool, true, false, cond}
 use mathlib.Core.List.{List}
 use lib.IntN.{ℤ}
 use lib.ListN.{length}
 use lib.Dec.{eqb, ltb}
 use Rattle.octets.specs.Area.{done, refused}
-use Rattle.octets.specs.Reading.{pick}
 use Rattle.octets.specs.declared.Access.{Access}
 use Rattle.octets.specs.declared.Access.the-variants.{Plain, Password}
 use Rattle.octets.specs.declared.Form.{Form}
@@ -26,7 +25,7 @@ use Rattle.capi.specs.Slices.{Slices, lent, Holds}
 
 -- "port (0 normal, 1 secure)"
 abbrev pub portOf : ℕ → Port
-portOf n = pick (eqb n 1) Secure Normal
+portOf n = cond (eqb n 1) Secure Normal
 
 -- the access that a call passes: a password, or none
 abbrev pub accessOf : Bool → ℕ → Access
@@ -42,7 +41,7 @@ formFor false = f.Plain
 
 -- the number of what is too great; then 300, for slices that are no unit's
 abbrev pub barredBy : Bool → ℕ → Slices → Line
-barredBy high n x = pick high (number n) (pick (lent x) none (number 300))
+barredBy high n x = cond high (number n) (cond (lent x) none (number 300))
 
 -- "Start gives 301 for a version above 15 and makes no unit."
 abbrev pub startLine : ℕ → Slices → Line

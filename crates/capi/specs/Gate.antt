@@ -1,5 +1,6 @@
 -- What the gate's writers and readers give and do, by the definitions of the message layer. A reader's words go into a lent slice of words: as many as it has to tell,
 -- and those behind them stay.
+use mathlib.Core.Bool.{cond}
 use Prim.Native.Nat.{ℕ}
 use mathlib.Core.Path.{_≡_}
 use mathlib.Core.List.{List, [], _∷_, _++_}
@@ -7,7 +8,7 @@ use lib.IntN.{ℤ}
 use lib.ListN.{length, drop}
 use lib.Dec.{ltb}
 use Rattle.octets.specs.Area.{Outcome, done, refused}
-use Rattle.octets.specs.Reading.{pick, faultNumber}
+use Rattle.octets.specs.Reading.{faultNumber}
 use Rattle.octets.specs.declared.Form.the-variants.{Plain}
 use Rattle.tags.specs.View.{KeyAt, MemoryAt}
 use Rattle.tags.specs.declared.Key.{Key}
@@ -34,7 +35,7 @@ pub record Gives (o : Outcome × List ℕ) (r : ℤ) (new : List ℕ) : Type 0 w
 
 -- words put at the front of a lent slice, if it has room for them; n is told
 unfoldable pub filled : ℕ → List ℕ → List ℕ → Outcome × List ℕ
-filled n words old = pick (ltb (length old) (length words)) (refused 300, old) (done n, words ++ drop (length words) old)
+filled n words old = cond (ltb (length old) (length words)) (refused 300, old) (done n, words ++ drop (length words) old)
 
 -- ---- an answer: type, version, status, tag, first place, length or count, and what a unit can take. 0 where an answer has no such word
 
@@ -73,7 +74,7 @@ pub record ReadsAnswer (s old : List ℕ) (r : ℤ) (new : List ℕ) : Type 0 wh
 
 -- "if the octets are over 2,048", 16: no list stands in such octets
 abbrev pub short : List ℕ → Outcome × List ℕ → List ℕ → Outcome × List ℕ
-short s o old = pick (ltb 2048 (length s)) (refused 16, old) o
+short s o old = cond (ltb 2048 (length s)) (refused 16, old) o
 
 -- the tag; the next place is told
 abbrev pub keyFilled : Key → List ℕ → Outcome × List ℕ

@@ -1,10 +1,9 @@
 -- Laws of a turn: what `log::step` promises, with what becomes of the places in each of its cases, is what a turn promises.
 use mathlib.Core.Path.{_≡_, refl, sym, _∙_}
-use mathlib.Core.Bool.{Bool, true, false}
+use mathlib.Core.Bool.{Bool, true, false, cond}
 use mathlib.Core.List.{List}
 use Prim.Native.Nat.{ℕ}
 use native.Mathlib.Omega.{arith}
-use Rattle.octets.specs.Reading.{pick}
 use Rattle.log.specs.Entry.{Word, wordOf, Out, Stepped}
 use Rattle.log.specs.declared.Outcome.{Outcome}
 use Rattle.gatelog.specs.Place.{Emptied, Moved, TurnTaken}
@@ -19,7 +18,7 @@ pub emptied : (n : ℕ) (p q r : Place) → Emptied n q r → q .answered ≡ p 
 emptied n p q r e a s d l = record { answered = e .answered ∙ a; start = e .start ∙ s; end = e .end ∙ d; filled = e .filled; handed = e .handed; last = e .last ∙ l }
 
 -- what does not go on does not go on after a write
-pub stopped : (b g : Bool) → g ≡ pick b false false → g ≡ false
+pub stopped : (b g : Bool) → g ≡ cond b false false → g ≡ false
 stopped true g e = e
 stopped false g e = e
 

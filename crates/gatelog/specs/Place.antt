@@ -1,11 +1,10 @@
 -- Where the program's places are at first and where they lie, what writing and reading do to them, what a turn does, and how many turns are enough.
 use Prim.Native.Nat.{ℕ, _+_, _-_, _*_, _≤_}
 use mathlib.Core.Path.{_≡_}
-use mathlib.Core.Bool.{Bool, true, false}
+use mathlib.Core.Bool.{Bool, true, false, cond}
 use mathlib.Core.List.{List}
 use lib.ListN.{length, take, drop}
 use lib.Dec.{eqb}
-use Rattle.octets.specs.Reading.{pick}
 use Rattle.admission.specs.declared.Head.{Head}
 use Rattle.store.specs.Model.{Shows}
 use Rattle.log.specs.Entry.{Word, wants-more, used-written, closed, refusal, Out}
@@ -40,7 +39,7 @@ pub record Emptied (n : ℕ) (p r : Place) : Type 0 where
 
 -- the program goes on as before if the characters could be written, and else no more; nothing says which
 abbrev pub Tried : Place → Place → Type 0
-Tried p r = (written : Bool) × (r .going ≡ pick written (p .going) false)
+Tried p r = (written : Bool) × (r .going ≡ cond written (p .going) false)
 
 -- octets are read behind those at hand, which go to the front of the input buffer; the input is at its end if there are none
 pub record Refilled (p r : Place) (old new : List ℕ) : Type 0 where

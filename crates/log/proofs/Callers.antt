@@ -2,14 +2,13 @@
 -- stays sound.
 use Prim.Native.Nat.{ℕ, _+_, _≤_, _<_}
 use mathlib.Core.Path.{_≡_, refl, sym, ap, _∙_}
-use mathlib.Core.Bool.{Bool, true, false}
+use mathlib.Core.Bool.{Bool, true, false, cond}
 use mathlib.Core.List.{List, [], _++_}
 use native.Mathlib.Omega.{arith}
 use lib.ListN.{length, take, drop, length-append, length-drop}
 use lib.Seq.{length-take-le}
 use lib.Dec.{ltb}
 use borrow.Author.Tests.{ltb-false}
-use Rattle.octets.specs.Reading.{pick}
 use Rattle.store.specs.Model.{State, Sound}
 use Rattle.log.specs.Turn.{Turned, more, answered, ended, turn}
 use Rattle.log.specs.Entry.{Word, wants-more, used-written, closed, refusal, wordOf, over, Out, outOf, stepOut, Stepped}
@@ -31,7 +30,7 @@ over-within old v at h e =
 
 module _ (u : State) (n : ℕ) (last : Bool) (s old : List ℕ) (at : ℕ) where
   abbrev outBy : Bool → Turned → Out
-  outBy b t = pick b (record { word = refusal 300; area = old; unit = u }) (outOf u old at t)
+  outBy b t = cond b (record { word = refusal 300; area = old; unit = u }) (outOf u old at t)
 
   by-turn : (b : Bool) (t : Turned) → ltb (length old) (at + 4108) ≡ b → Means u n last s [] t → length (outBy b t .area) ≡ length old
       → Learns n last (length s) at (length old) (outBy b t .word)

@@ -1,14 +1,13 @@
 -- Laws of what stands at the front: by the tests that the code makes, from the first octet on; with octets behind it; and where a record ends.
 use Prim.Native.Nat.{ℕ, suc, _+_, _-_, _*_, _≤_, _<_}
 use mathlib.Core.Path.{_≡_, refl, _∙_}
-use mathlib.Core.Bool.{Bool, true, false}
+use mathlib.Core.Bool.{Bool, true, false, cond}
 use mathlib.Core.List.{List, [], _∷_, _++_}
 use native.Mathlib.Omega.{arith}
 use lib.ListN.{length, take, drop, getD, length-append, length-drop}
 use lib.Seq.{take-append-le, drop-append-le, length-take-le, drop-drop, getD-drop}
 use lib.Dec.{eqb, leb, ltb}
 use borrow.Author.Tests.{lt-ltb, le-ltb, le-leb, lt-leb, eq-eqb, ne-eqb, ltb-true, ltb-false, leb-false}
-use Rattle.octets.specs.Reading.{pick}
 use Rattle.octets.specs.declared.Port.{Port}
 use Rattle.log.specs.Record.{Front, nothing, wrong, cut, whole, portOf, request, requestLength, port, secondMark, front, frontAfter}
 
@@ -152,17 +151,17 @@ module _ (x : List ℕ) where
   request-behind : (p : Port) (n : ℕ) (s : List ℕ) → Settled (request p n s) → request p n (s ++ x) ≡ onward x (request p n s)
   request-behind p n s = high (ltb 2048 n)
     where
-      fits : (c : Bool) → ltb (length s) n ≡ c → Settled (pick c cut (whole p (take n s) (drop n s)))
-          → pick (ltb (length (s ++ x)) n) cut (whole p (take n (s ++ x)) (drop n (s ++ x))) ≡ onward x (pick c cut (whole p (take n s) (drop n s)))
+      fits : (c : Bool) → ltb (length s) n ≡ c → Settled (cond c cut (whole p (take n s) (drop n s)))
+          → cond (ltb (length (s ++ x)) n) cut (whole p (take n (s ++ x)) (drop n (s ++ x))) ≡ onward x (cond c cut (whole p (take n s) (drop n s)))
       fits true e h = absurd h
       fits false e h =
           let g : n ≤ length s = ltb-false (length s) n e in
           let l : n ≤ length (s ++ x) = rw length-append (omega arith) in
           rw (le-ltb _ _ l, take-append-le n s x g, drop-append-le n s x g)
 
-      high : (b : Bool) → Settled (pick b wrong (pick (ltb (length s) n) cut (whole p (take n s) (drop n s))))
-          → pick b wrong (pick (ltb (length (s ++ x)) n) cut (whole p (take n (s ++ x)) (drop n (s ++ x))))
-          ≡ onward x (pick b wrong (pick (ltb (length s) n) cut (whole p (take n s) (drop n s))))
+      high : (b : Bool) → Settled (cond b wrong (cond (ltb (length s) n) cut (whole p (take n s) (drop n s))))
+          → cond b wrong (cond (ltb (length (s ++ x)) n) cut (whole p (take n (s ++ x)) (drop n (s ++ x))))
+          ≡ onward x (cond b wrong (cond (ltb (length s) n) cut (whole p (take n s) (drop n s))))
       high true h = refl
       high false h = fits (ltb (length s) n) refl h
 
@@ -175,7 +174,7 @@ module _ (x : List ℕ) where
   port-behind [] h = absurd h
   port-behind (a ∷ s) h = go (ltb 1 a) h
     where
-      go : (b : Bool) → Settled (pick b wrong (requestLength (portOf a) s)) → pick b wrong (requestLength (portOf a) (s ++ x)) ≡ onward x (pick b wrong (requestLength (portOf a) s))
+      go : (b : Bool) → Settled (cond b wrong (requestLength (portOf a) s)) → cond b wrong (requestLength (portOf a) (s ++ x)) ≡ onward x (cond b wrong (requestLength (portOf a) s))
       go true h = refl
       go false h = length-behind (portOf a) s h
 
@@ -183,7 +182,7 @@ module _ (x : List ℕ) where
   second-behind [] h = absurd h
   second-behind (a ∷ s) h = go (eqb a 0x41) h
     where
-      go : (b : Bool) → Settled (pick b (port s) wrong) → pick b (port (s ++ x)) wrong ≡ onward x (pick b (port s) wrong)
+      go : (b : Bool) → Settled (cond b (port s) wrong) → cond b (port (s ++ x)) wrong ≡ onward x (cond b (port s) wrong)
       go true h = port-behind s h
       go false h = refl
 
@@ -191,7 +190,7 @@ module _ (x : List ℕ) where
   unfolding front
   front-behind a s h = go (eqb a 0x4d) h
     where
-      go : (b : Bool) → Settled (pick b (secondMark s) wrong) → pick b (secondMark (s ++ x)) wrong ≡ onward x (pick b (secondMark s) wrong)
+      go : (b : Bool) → Settled (cond b (secondMark s) wrong) → cond b (secondMark (s ++ x)) wrong ≡ onward x (cond b (secondMark s) wrong)
       go true h = second-behind s h
       go false h = refl
 
@@ -201,7 +200,7 @@ module _ (x : List ℕ) where
   settled n [] h = absurd h
   settled n (a ∷ s) h = go (leb 4294967295 n) h
     where
-      go : (b : Bool) → Settled (pick b wrong (front (a ∷ s))) → pick b wrong (front (a ∷ s ++ x)) ≡ onward x (pick b wrong (front (a ∷ s)))
+      go : (b : Bool) → Settled (cond b wrong (front (a ∷ s))) → cond b wrong (front (a ∷ s ++ x)) ≡ onward x (cond b wrong (front (a ∷ s)))
       go true h = refl
       go false h = front-behind a s h
 
@@ -224,14 +223,14 @@ spans-more m a s (whole p r t) h = let e : suc m + length r ≡ suc (m + length 
 request-spans : (p : Port) (n : ℕ) (s : List ℕ) → Spans 0 s (request p n s)
 request-spans p n s = high (ltb 2048 n) refl
   where
-    fits : (c : Bool) → n ≤ 2048 → ltb (length s) n ≡ c → Spans 0 s (pick c cut (whole p (take n s) (drop n s)))
+    fits : (c : Bool) → n ≤ 2048 → ltb (length s) n ≡ c → Spans 0 s (cond c cut (whole p (take n s) (drop n s)))
     fits true g e = omega (arith, ltb-true (length s) n e)
     fits false g e =
         let h : length (take n s) ≡ n = length-take-le n s (ltb-false _ _ e) in
         let z : 0 + n ≡ n = omega arith in
         rw h (g, rw length-drop (omega (arith, ltb-false (length s) n e)), rw z)
 
-    high : (b : Bool) → ltb 2048 n ≡ b → Spans 0 s (pick b wrong (pick (ltb (length s) n) cut (whole p (take n s) (drop n s))))
+    high : (b : Bool) → ltb 2048 n ≡ b → Spans 0 s (cond b wrong (cond (ltb (length s) n) cut (whole p (take n s) (drop n s))))
     high true e = tt
     high false e = fits (ltb (length s) n) (ltb-false 2048 n e) refl
 
@@ -244,7 +243,7 @@ port-spans : (s : List ℕ) → Spans 3 s (port s)
 port-spans [] = omega arith
 port-spans (a ∷ s) = go (ltb 1 a)
   where
-    go : (b : Bool) → Spans 3 (a ∷ s) (pick b wrong (requestLength (portOf a) s))
+    go : (b : Bool) → Spans 3 (a ∷ s) (cond b wrong (requestLength (portOf a) s))
     go true = tt
     go false = spans-more 2 a s (requestLength (portOf a) s) (length-spans (portOf a) s)
 
@@ -252,7 +251,7 @@ second-spans : (s : List ℕ) → Spans 4 s (secondMark s)
 second-spans [] = omega arith
 second-spans (a ∷ s) = go (eqb a 0x41)
   where
-    go : (b : Bool) → Spans 4 (a ∷ s) (pick b (port s) wrong)
+    go : (b : Bool) → Spans 4 (a ∷ s) (cond b (port s) wrong)
     go true = spans-more 3 a s (port s) (port-spans s)
     go false = tt
 
@@ -261,7 +260,7 @@ unfolding front
 front-spans [] = omega arith
 front-spans (a ∷ s) = go (eqb a 0x4d)
   where
-    go : (b : Bool) → Spans 5 (a ∷ s) (pick b (secondMark s) wrong)
+    go : (b : Bool) → Spans 5 (a ∷ s) (cond b (secondMark s) wrong)
     go true = spans-more 4 a s (secondMark s) (second-spans s)
     go false = tt
 
@@ -270,7 +269,7 @@ unfolding frontAfter
 spans n [] = omega arith
 spans n (a ∷ s) = go (leb 4294967295 n)
   where
-    go : (b : Bool) → Spans 5 (a ∷ s) (pick b wrong (front (a ∷ s)))
+    go : (b : Bool) → Spans 5 (a ∷ s) (cond b wrong (front (a ∷ s)))
     go true = tt
     go false = front-spans (a ∷ s)
 
@@ -294,6 +293,6 @@ counts n (a ∷ s) = go (leb 4294967295 n) refl
     any cut h = tt
     any (whole p r t) h = h
 
-    go : (b : Bool) → leb 4294967295 n ≡ b → Counts n (pick b wrong (front (a ∷ s)))
+    go : (b : Bool) → leb 4294967295 n ≡ b → Counts n (cond b wrong (front (a ∷ s)))
     go true e = tt
     go false e = any (front (a ∷ s)) (leb-false 4294967295 n e)

@@ -1,7 +1,7 @@
 -- Laws of the text: how long it is, and how it is written digit by digit.
 use Prim.Native.Nat.{ℕ, zero, suc, _+_, _-_, _*_, _/_, _%_, _^_, _≤_, _<_}
 use mathlib.Core.Path.{_≡_, refl, _∙_}
-use mathlib.Core.Bool.{Bool, true, false}
+use mathlib.Core.Bool.{Bool, true, false, cond}
 use mathlib.Core.List.{List, [], _∷_, _++_}
 use native.Mathlib.Omega.{arith}
 use native.Mathlib.Nat.{pow-suc}
@@ -11,7 +11,6 @@ use lib.Seq.{sets-eq, take-suc}
 use lib.Dec.{ltb}
 use borrow.Author.Tests.{lt-ltb, le-ltb, ltb-false}
 use Rattle.octets.specs.Area.{Wrote}
-use Rattle.octets.specs.Reading.{pick}
 use Rattle.octets.proofs.Areas.{wrote-sets}
 use Rattle.log.specs.Text.{digits, decimal, pair, hexadecimal, answerLine, worded}
 use Rattle.log.specs.Entry.{over}
@@ -40,7 +39,7 @@ unfolding digits
 length-digits zero n = omega arith
 length-digits (suc k) n = go (ltb n 10) (length-digits k (n / 10))
   where
-    go : (b : Bool) → length (digits k (n / 10)) ≤ k → length (pick b ((48 + n) ∷ []) (digits k (n / 10) ++ ((48 + n % 10) ∷ []))) ≤ suc k
+    go : (b : Bool) → length (digits k (n / 10)) ≤ k → length (cond b ((48 + n) ∷ []) (digits k (n / 10) ++ ((48 + n % 10) ∷ []))) ≤ suc k
     go true h = omega arith
     go false h = rw length-append (omega arith)
 
@@ -103,7 +102,7 @@ unfolding digits
 digits-read zero n h = omega (arith, h)
 digits-read (suc k) n h = go (ltb n 10) refl (λ g. digits-read k (n / 10) g)
   where
-    go : (b : Bool) → ltb n 10 ≡ b → (n / 10 < 10 ^ k → readOn 0 (digits k (n / 10)) ≡ n / 10) → readOn 0 (pick b ((48 + n) ∷ []) (digits k (n / 10) ++ ((48 + n % 10) ∷ []))) ≡ n
+    go : (b : Bool) → ltb n 10 ≡ b → (n / 10 < 10 ^ k → readOn 0 (digits k (n / 10)) ≡ n / 10) → readOn 0 (cond b ((48 + n) ∷ []) (digits k (n / 10) ++ ((48 + n % 10) ∷ []))) ≡ n
     go true e f = omega arith
     go false e f = rw (read-snoc (digits k (n / 10)) 0 (48 + n % 10), f (omega (arith, h, pow-suc 10 k))) (omega arith)
 
@@ -119,7 +118,7 @@ digits-first zero n p h = absurd (omega (arith, h))
 digits-first (suc k) n p h = go (ltb n 10) refl (λ q g. digits-first k (n / 10) q g)
   where
     go : (b : Bool) → ltb n 10 ≡ b → (0 < n / 10 → n / 10 < 10 ^ k → 48 < getD (digits k (n / 10)) 0 0)
-        → 48 < getD (pick b ((48 + n) ∷ []) (digits k (n / 10) ++ ((48 + n % 10) ∷ []))) 0 0
+        → 48 < getD (cond b ((48 + n) ∷ []) (digits k (n / 10) ++ ((48 + n % 10) ∷ []))) 0 0
     go true e f = omega arith
     go false e f =
         let g = f (omega (arith, ltb-false n 10 e)) (omega (arith, h, pow-suc 10 k)) in

@@ -1,11 +1,10 @@
 -- What a turn does is what the output says: for each of its three answers, whatever comes behind the octets at hand.
 use Prim.Native.Nat.{ℕ, suc, _≤_, _<_}
 use mathlib.Core.Path.{_≡_, refl, _∙_}
-use mathlib.Core.Bool.{Bool, true, false}
+use mathlib.Core.Bool.{Bool, true, false, cond}
 use mathlib.Core.List.{List, [], _++_, append-nil}
 use native.Mathlib.Omega.{arith}
 use lib.ListN.{length, drop}
-use Rattle.octets.specs.Reading.{pick}
 use Rattle.store.specs.Model.{State}
 use Rattle.log.specs.Record.{Front, nothing, wrong, cut, whole, frontAfter}
 use Rattle.log.specs.Output.{endLines, stopLines, outputFrom}
@@ -23,7 +22,7 @@ Means u n last s x (ended lines) = (last ≡ true → x ≡ []) → outputFrom u
 
 module _ (u : State) (n : ℕ) (s x : List ℕ) where
   -- nothing at hand, or a cut record
-  waits : (last : Bool) (f : Front) (lines : List ℕ) → length s < 2053 → outputFrom u n s ≡ lines → Means u n last s x (pick last (ended lines) more)
+  waits : (last : Bool) (f : Front) (lines : List ℕ) → length s < 2053 → outputFrom u n s ≡ lines → Means u n last s x (cond last (ended lines) more)
   waits true f lines h e = λ z. rw (z refl, append-nil s) e
   waits false f lines h e = (refl, h)
 

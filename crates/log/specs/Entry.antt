@@ -1,11 +1,10 @@
 -- What the entry's promise says of its result, of the area for lines and of the unit; and what the answers of the functions below it stand for.
 use Prim.Native.Nat.{ℕ, _+_, _≤_}
 use mathlib.Core.Path.{_≡_}
-use mathlib.Core.Bool.{Bool}
+use mathlib.Core.Bool.{Bool, cond}
 use mathlib.Core.List.{List, _++_}
 use lib.ListN.{length, take, drop}
 use lib.Dec.{ltb}
-use Rattle.octets.specs.Reading.{pick}
 use Rattle.responder.specs.declared.Sent.{Sent}
 use Rattle.responder.specs.declared.Sent.the-variants as s
 use Rattle.store.specs.Model.{State, Shows}
@@ -49,7 +48,7 @@ outOf u old at (ended lines) = record { word = closed (length lines); area = ove
 
 -- 300 for an area that has no room for the longest line, 4,108 octets: ten digits, a space, 2,048 octets in hexadecimal, the line's end
 unfoldable pub stepOut : State → ℕ → Bool → List ℕ → List ℕ → ℕ → Out
-stepOut u n last s old at = pick (ltb (length old) (at + 4108)) (record { word = refusal 300; area = old; unit = u }) (outOf u old at (turn u n last s))
+stepOut u n last s old at = cond (ltb (length old) (at + 4108)) (record { word = refusal 300; area = old; unit = u }) (outOf u old at (turn u n last s))
 
 -- the entry's promise
 pub record Stepped (o : Out) (r : Outcome) (new table pool : List ℕ) : Type 0 where
@@ -61,7 +60,7 @@ pub record Stepped (o : Out) (r : Outcome) (new table pool : List ℕ) : Type 0 
 
 -- reading stops with lines, if that is certain; else more octets are wanted
 abbrev pub closing : Bool → List ℕ → Turned
-closing certain lines = pick certain (ended lines) more
+closing certain lines = cond certain (ended lines) more
 
 -- lines that close the log are written, if it is certain that it is to be closed
 pub record Closes (certain : Bool) (lines : List ℕ) (at : ℕ) (r : Turn) (old new : List ℕ) : Type 0 where

@@ -1,14 +1,14 @@
 -- The text that the gate log program prints: numbers in decimal, octets in capital hexadecimal, and its three lines.
 -- Document 01, 'The gate log program'. A character is its octet in ASCII, and a line ends with the octet 10.
+use mathlib.Core.Bool.{cond}
 use Prim.Native.Nat.{ℕ, zero, suc, _+_, _/_, _%_}
 use mathlib.Core.List.{List, [], _∷_, _++_}
 use lib.Dec.{ltb}
-use Rattle.octets.specs.Reading.{pick}
 
 -- a number in at most so many decimal digits, high digit first and no zero before it
 unfoldable pub digits : ℕ → ℕ → List ℕ
 digits zero n = []
-digits (suc k) n = pick (ltb n 10) ((48 + n) ∷ []) (digits k (n / 10) ++ ((48 + n % 10) ∷ []))
+digits (suc k) n = cond (ltb n 10) ((48 + n) ∷ []) (digits k (n / 10) ++ ((48 + n % 10) ∷ []))
 
 -- ten digits are enough: no number here is above 4,294,967,296
 unfoldable pub decimal : ℕ → List ℕ
@@ -16,7 +16,7 @@ decimal n = digits 10 n
 
 -- "capital hexadecimal": 0 to 9, and A to F for 10 to 15
 unfoldable pub hexadecimalDigit : ℕ → ℕ
-hexadecimalDigit n = pick (ltb n 10) (48 + n) (55 + n)
+hexadecimalDigit n = cond (ltb n 10) (48 + n) (55 + n)
 
 -- an octet is two digits, high part first
 abbrev pub pair : ℕ → List ℕ

@@ -1,7 +1,7 @@
 -- Laws of writing into a lent area: field by field, and a message behind its opening.
 use Prim.Native.Nat.{ℕ, _+_, _*_, _<_, _≤_}
 use mathlib.Core.Path.{_≡_, refl, sym, ap, _∙_}
-use mathlib.Core.Bool.{Bool, true, false, _&&_}
+use mathlib.Core.Bool.{Bool, true, false, _&&_, cond}
 use mathlib.Core.List.{List, [], _∷_, _++_}
 use native.Mathlib.Omega.{arith}
 use native.Mathlib.Nat.{zero-add, add-zero}
@@ -9,7 +9,6 @@ use lib.ListN.{length, drop, length-append, take}
 use lib.Seq.{sets, sets-eq, length-sets, take-at}
 use lib.Dec.{ltb, leb}
 use borrow.Author.Tests.{lt-ltb, le-ltb, le-leb, lt-leb, ltb-true, ltb-false}
-use Rattle.octets.specs.Reading.{pick}
 use Rattle.octets.specs.Length.{encodeLength}
 use Rattle.octets.specs.Area.{laid, past, Laid, Wrote, Outcome, done, refused, written, Does}
 use Rattle.octets.specs.Layout.{Layout, fieldOctets, size}
@@ -79,7 +78,7 @@ done-same e = cc
 module _ (v k n : ℕ) (old new : List ℕ) where
   -- the three ways in which an opening goes, by its two tests
   abbrev ways : Bool → Bool → Outcome × List ℕ
-  ways b c = pick b (pick c (refused 300, old) (done (length (opening v k n)), sets old 0 (opening v k n))) (refused 16, old)
+  ways b c = cond b (cond c (refused 300, old) (done (length (opening v k n)), sets old 0 (opening v k n))) (refused 16, old)
 
   -- the area is too short for the message
   abbrev lacks : Bool
@@ -141,7 +140,7 @@ module _ (v k n : ℕ) (old : List ℕ) where
       let g : 2048 < length (opening v k n) + n = omega (arith, length-opening v k n) in
       rw (lt-leb _ _ g) (go (ltb v 16))
     where
-      go : (b : Bool) → Does (pick (b && false) (pick (ltb (length old) (length (opening v k n) + n)) (refused 300, old) (done (length (opening v k n)), sets old 0 (opening v k n))) (refused 16, old)) Refused old
+      go : (b : Bool) → Does (cond (b && false) (cond (ltb (length old) (length (opening v k n) + n)) (refused 300, old) (done (length (opening v k n)), sets old 0 (opening v k n))) (refused 16, old)) Refused old
       go true = record { says = refl; area = refl }
       go false = record { says = refl; area = refl }
 
@@ -197,7 +196,7 @@ unfolding written
 written-front false m old new n d = let x = d .says in let z : _≡_ {A = ℕ} 0 1 = cc in absurd (omega arith)
 written-front true m old new n d = go (ltb (length old) (length m)) d
   where
-    go : (c : Bool) → Does (pick c (refused 300, old) (done (length m), m ++ drop (length m) old)) (Done n) new → (true ≡ true) × (take n new ≡ m)
+    go : (c : Bool) → Does (cond c (refused 300, old) (done (length m), m ++ drop (length m) old)) (Done n) new → (true ≡ true) × (take n new ≡ m)
     go true d = let x = d .says in let z : _≡_ {A = ℕ} 0 1 = cc in absurd (omega arith)
     go false d = (refl, ap (take n) (d .area) ∙ take-at m (drop (length m) old) n (sym (done-same (d .says))))
 

@@ -1,13 +1,13 @@
 -- The frame around a body: what its readers find at a position, and the round trip of whole messages, over any table of lawful bodies.
 use Prim.Native.Nat.{ℕ, suc, _+_, _-_, _*_, _/_, _%_, _<_, _≤_}
 use mathlib.Core.Path.{_≡_, refl, sym, ap, _∙_}
-use mathlib.Core.Bool.{Bool, true, false}
+use mathlib.Core.Bool.{Bool, true, false, cond}
 use mathlib.Core.List.{List, [], _∷_, _++_, append-nil}
 use native.Mathlib.Omega.{arith}
 use lib.ListN.{length, getD, drop, length-drop, length-append}
 use lib.Dec.{ltb, leb, eqb}
 use borrow.Author.Tests.{eq-eqb, ne-eqb, eqb-true, lt-ltb, le-ltb, le-leb, ltb-true, ltb-false, leb-true}
-use Rattle.octets.specs.Reading.{Read, bad, ok, pick, andThen, atEnd, Octets}
+use Rattle.octets.specs.Reading.{Read, bad, ok, andThen, atEnd, Octets}
 use Rattle.octets.specs.Length.{encodeLength, decodeLength}
 use Rattle.octets.specs.Layout.{Layout}
 use Rattle.octets.specs.Frame.{opening, openable, typed, commanded, heading, enclosed, Message, bodied, decode, encode, writable, receive}
@@ -57,7 +57,7 @@ module _ (s : List ℕ) where
 
   module _ (h : 4 ≤ length s) (k : getD s 3 0 ≡ 0) where
     -- profile 0: a length follows, and it must be the rest's
-    pub enclosed-on : enclosed (drop 3 s) ≡ andThen (decodeLength (drop 4 s)) (λ n r. pick (eqb n (length r)) (ok tt r) (bad Other))
+    pub enclosed-on : enclosed (drop 3 s) ≡ andThen (decodeLength (drop 4 s)) (λ n r. cond (eqb n (length r)) (ok tt r) (bad Other))
     unfolding enclosed
     enclosed-on = let g : 3 < length s = h in rw (here s 3 g, eq-eqb (getD s 3 0) 0 k)
 
@@ -98,13 +98,13 @@ unfolding enclosed
 enclosed-back [] r o e = absurd (bad-ok e)
 enclosed-back (p ∷ l) r o e = profile (eqb p 0) refl e
   where
-    rest : (n : ℕ) (t : List ℕ) (c : Bool) → eqb n (length t) ≡ c → l ≡ encodeLength n ++ t → _≡_ {A = Read (Unit {0})} (pick c (ok tt t) (bad Other)) (ok tt r) → l ≡ encodeLength (length r) ++ r
+    rest : (n : ℕ) (t : List ℕ) (c : Bool) → eqb n (length t) ≡ c → l ≡ encodeLength n ++ t → _≡_ {A = Read (Unit {0})} (cond c (ok tt t) (bad Other)) (ok tt r) → l ≡ encodeLength (length r) ++ r
     rest n t true f x g = rw (← ok-rest g, ← eqb-true n (length t) f) x
     rest n t false f x g = absurd (bad-ok g)
 
-    profile : (b : Bool) → eqb p 0 ≡ b → _≡_ {A = Read (Unit {0})} (pick b (andThen (decodeLength l) (λ n t. pick (eqb n (length t)) (ok tt t) (bad Other))) (bad Other)) (ok tt r) → p ∷ l ≡ 0 ∷ encodeLength (length r) ++ r
+    profile : (b : Bool) → eqb p 0 ≡ b → _≡_ {A = Read (Unit {0})} (cond b (andThen (decodeLength l) (λ n t. cond (eqb n (length t)) (ok tt t) (bad Other))) (bad Other)) (ok tt r) → p ∷ l ≡ 0 ∷ encodeLength (length r) ++ r
     profile true f g =
-        let w = went (decodeLength l) (λ n t. pick (eqb n (length t)) (ok tt t) (bad Other)) tt r g in
+        let w = went (decodeLength l) (λ n t. cond (eqb n (length t)) (ok tt t) (bad Other)) tt r g in
         let x = length-back l (w .val) (w .rest) (λ k. o (suc k)) (w .first) in
         let y : l ≡ encodeLength (length r) ++ r = rest (w .val) (w .rest) (eqb (w .val) (length (w .rest))) refl (x .0) (w .then) in
         ap (λ (x : ℕ). x ∷ l) (eqb-true p 0 f) ∙ ap (λ (t : List ℕ). 0 ∷ t) y
@@ -126,11 +126,11 @@ heading-back (x ∷ s) v k l o e = fill (eqb (x % 16) 0) refl e
     command [] g = absurd (bad-ok g)
     command (c ∷ t) g = go (eqb c 1) refl g
       where
-        go : (b : Bool) → eqb c 1 ≡ b → pick b (typed (x / 16) t) (bad Other) ≡ ok (v, k) l → (x / 16 ≡ v) × (c ∷ t ≡ 1 ∷ k ∷ l)
+        go : (b : Bool) → eqb c 1 ≡ b → cond b (typed (x / 16) t) (bad Other) ≡ ok (v, k) l → (x / 16 ≡ v) × (c ∷ t ≡ 1 ∷ k ∷ l)
         go true f g = let z = kind t g in (z .0, rw (eqb-true c 1 f, z .1))
         go false f g = absurd (bad-ok g)
 
-    fill : (b : Bool) → eqb (x % 16) 0 ≡ b → pick b (commanded (x / 16) s) (bad Other) ≡ ok (v, k) l → (x ∷ s ≡ (v * 16) ∷ 1 ∷ k ∷ l) × (v < 16)
+    fill : (b : Bool) → eqb (x % 16) 0 ≡ b → cond b (commanded (x / 16) s) (bad Other) ≡ ok (v, k) l → (x ∷ s ≡ (v * 16) ∷ 1 ∷ k ∷ l) × (v < 16)
     fill true f g =
         let z = command s g in
         let m : x % 16 ≡ 0 = eqb-true (x % 16) 0 f in
@@ -192,7 +192,7 @@ module _ {A : Type 0} (kinds : ℕ → Layout A) (lawful : (k : ℕ) → Lawful 
   unfolding receive writable openable
   read-written s m o e = go (ltb 2048 (length s)) refl e
     where
-      go : (b : Bool) → ltb 2048 (length s) ≡ b → pick b (bad Other) (decode kinds s) ≡ ok m [] → (s ≡ encode kinds m) × (writable kinds m ≡ true)
+      go : (b : Bool) → ltb 2048 (length s) ≡ b → cond b (bad Other) (decode kinds s) ≡ ok m [] → (s ≡ encode kinds m) × (writable kinds m ≡ true)
       go true f g = absurd (bad-ok g)
       go false f g =
           let x = decode-back s m o g in
@@ -219,7 +219,7 @@ module _ {A : Type 0} (kinds : ℕ → Layout A) (lawful : (k : ℕ) → Lawful 
   unfolding receive
   receive-is s m r e = go (ltb 2048 (length s)) refl e
     where
-      go : (b : Bool) → ltb 2048 (length s) ≡ b → pick b (bad Other) (decode kinds s) ≡ ok m r → (length s ≤ 2048) × (decode kinds s ≡ ok m r)
+      go : (b : Bool) → ltb 2048 (length s) ≡ b → cond b (bad Other) (decode kinds s) ≡ ok m r → (length s ≤ 2048) × (decode kinds s ≡ ok m r)
       go true f g = absurd (bad-ok g)
       go false f g = (ltb-false _ _ f, g)
 
@@ -237,7 +237,7 @@ module _ {A : Type 0} (kinds : ℕ → Layout A) (lawful : (k : ℕ) → Lawful 
   unfolding receive decode
   read-whole s m r e = go (ltb 2048 (length s)) e
     where
-      go : (b : Bool) → pick b (bad Other) (andThen (heading s) (λ h l. andThen (enclosed l) (λ u t. bodied kinds h t))) ≡ ok m r → r ≡ []
+      go : (b : Bool) → cond b (bad Other) (andThen (heading s) (λ h l. andThen (enclosed l) (λ u t. bodied kinds h t))) ≡ ok m r → r ≡ []
       go true g = absurd (bad-ok g)
       go false g =
           let w = went (heading s) (λ h l. andThen (enclosed l) (λ u t. bodied kinds h t)) m r g in

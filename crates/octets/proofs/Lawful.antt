@@ -1,14 +1,14 @@
 -- The law that every field's layout obeys, and that joining layouts keeps: what is written reads back, and only what would be written is read.
 use Prim.Native.Nat.{ℕ, zero, suc, _<_, _≤_}
 use mathlib.Core.Path.{_≡_, refl, sym, ap, _∙_}
-use mathlib.Core.Bool.{Bool, true, false, _&&_}
+use mathlib.Core.Bool.{Bool, true, false, _&&_, cond}
 use mathlib.Core.List.{List, [], _∷_, _++_, append-assoc}
 use native.Mathlib.Omega.{arith}
 use lib.ListN.{length, take, drop, length-append, take-append-drop}
 use lib.Seq.{take-at, drop-at, length-take-le}
 use lib.Dec.{ltb, leb}
 use borrow.Author.Tests.{lt-ltb, le-leb, ltb-true, leb-true}
-use Rattle.octets.specs.Reading.{Read, bad, ok, pick, andThen, Octets}
+use Rattle.octets.specs.Reading.{Read, bad, ok, andThen, Octets}
 use Rattle.octets.specs.Length.{encodeLength, decodeLength}
 use Rattle.octets.specs.Layout.{Layout, numeral, size, allowed, takeRaw, data', seq, via, only, entries, putAll, fitAll, listOf}
 use Rattle.octets.specs.declared.Fault.the-variants.{Other}
@@ -44,7 +44,7 @@ raw-there d r =
 raw-back : (n : ℕ) (l d r : List ℕ) → takeRaw n l ≡ ok d r → (l ≡ d ++ r) × (length d ≡ n)
 raw-back n l d r e = go (leb n (length l)) refl e
   where
-    go : (b : Bool) → leb n (length l) ≡ b → pick b (ok (take n l) (drop n l)) (bad Other) ≡ ok d r → (l ≡ d ++ r) × (length d ≡ n)
+    go : (b : Bool) → leb n (length l) ≡ b → cond b (ok (take n l) (drop n l)) (bad Other) ≡ ok d r → (l ≡ d ++ r) × (length d ≡ n)
     go true t q =
         let x : take n l ≡ d = cc in
         let y : drop n l ≡ r = cc in
@@ -99,7 +99,7 @@ module _ {A B : Type 0} (f : A → B) (g : B → A) (L : Layout A) (k : (a : A) 
   }
 
 module _ {A : Type 0} (p : A → Bool) (L : Layout A) (P : Lawful L) where
-  only-back : (l t r : List ℕ) (a b : A) (x : Bool) → Octets l → L .get l ≡ ok a t → p a ≡ x → pick x (ok a t) (bad Other) ≡ ok b r → (l ≡ L .put b ++ r) × ((L .fits b && p b) ≡ true)
+  only-back : (l t r : List ℕ) (a b : A) (x : Bool) → Octets l → L .get l ≡ ok a t → p a ≡ x → cond x (ok a t) (bad Other) ≡ ok b r → (l ≡ L .put b ++ r) × ((L .fits b && p b) ≡ true)
   only-back l t r a b true o e q g = let x = P .back l a t o e in rw (← ok-val g, ← ok-rest g) (x .0, both-are _ _ (x .1) q)
   only-back l t r a b false o e q g = absurd (bad-ok g)
 
@@ -107,7 +107,7 @@ module _ {A : Type 0} (p : A → Bool) (L : Layout A) (P : Lawful L) where
   only-lawful = record {
     there = λ a r h. let k = both (L .fits a) (p a) h in rw (P .there a r (k .0), k .1);
     back = λ l b r o e.
-        let w = went (L .get l) (λ a t. pick (p a) (ok a t) (bad Other)) b r e in
+        let w = went (L .get l) (λ a t. cond (p a) (ok a t) (bad Other)) b r e in
         only-back l (w .rest) r (w .val) b (p (w .val)) o (w .first) refl (w .then);
   }
 

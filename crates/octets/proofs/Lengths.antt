@@ -1,13 +1,13 @@
 -- The rule for lengths and counts, shown once for every field: what the decoder gives at a position, by the tests that the code makes there, and the round trip.
 use Prim.Native.Nat.{ℕ, suc, _+_, _-_, _*_, _/_, _%_, _<_, _≤_}
 use mathlib.Core.Path.{_≡_, refl}
-use mathlib.Core.Bool.{Bool, true, false}
+use mathlib.Core.Bool.{Bool, true, false, cond}
 use mathlib.Core.List.{List, [], _∷_, _++_}
 use native.Mathlib.Omega.{arith}
 use lib.ListN.{length, getD, drop}
 use lib.Dec.{ltb, leb}
 use borrow.Author.Tests.{le-ltb, lt-ltb, le-leb, lt-leb, ltb-true, ltb-false, leb-true}
-use Rattle.octets.specs.Reading.{bad, ok, pick, Octets}
+use Rattle.octets.specs.Reading.{bad, ok, Octets}
 use Rattle.octets.specs.Length.{encodeLength, decodeLength, secondOctet}
 use Rattle.octets.specs.Layout.{fieldOctets, size}
 use Rattle.octets.specs.declared.Fault.the-variants.{Missing, Longer, High}
@@ -38,7 +38,7 @@ module _ (s : List ℕ) (at : ℕ) (h : at < length s) (k : 128 ≤ getD s at 0)
       rw (here s at h, le-ltb _ _ k, lt-ltb _ _ j, here-end s (at + 1) e)
 
   -- two octets are a length if they hold 128 or more
-  two-octets : 2 ≤ length s - at → decodeLength (drop at s) ≡ pick (leb 128 (two s at)) (ok (two s at) (drop (at + 2) s)) (bad Longer)
+  two-octets : 2 ≤ length s - at → decodeLength (drop at s) ≡ cond (leb 128 (two s at)) (ok (two s at) (drop (at + 2) s)) (bad Longer)
   unfolding decodeLength
   two-octets e =
       let e' : at + 1 < length s = omega arith in
@@ -65,7 +65,7 @@ pub encode-some : (n : ℕ) → (1 ≤ length (encodeLength n)) × (length (enco
 unfolding encodeLength
 encode-some n = go (ltb n 128)
   where
-    go : (b : Bool) → (1 ≤ length (pick b (n ∷ []) ((128 + n / 256) ∷ (n % 256) ∷ []))) × (length (pick b (n ∷ []) ((128 + n / 256) ∷ (n % 256) ∷ [])) ≤ 2)
+    go : (b : Bool) → (1 ≤ length (cond b (n ∷ []) ((128 + n / 256) ∷ (n % 256) ∷ []))) × (length (cond b (n ∷ []) ((128 + n / 256) ∷ (n % 256) ∷ [])) ≤ 2)
     go true = (omega arith, omega arith)
     go false = (omega arith, omega arith)
 
@@ -78,7 +78,7 @@ length-octets-none n h = rw (le-ltb _ _ h)
 
 -- ---- the round trip
 
-length-there-go : (n : ℕ) (r : List ℕ) → n < 16384 → (b : Bool) → ltb n 128 ≡ b → decodeLength (pick b (n ∷ []) ((128 + n / 256) ∷ (n % 256) ∷ []) ++ r) ≡ ok n r
+length-there-go : (n : ℕ) (r : List ℕ) → n < 16384 → (b : Bool) → ltb n 128 ≡ b → decodeLength (cond b (n ∷ []) ((128 + n / 256) ∷ (n % 256) ∷ []) ++ r) ≡ ok n r
 unfolding decodeLength
 length-there-go n r h true e = rw e
 length-there-go n r h false e =
@@ -94,7 +94,7 @@ length-there n r h = length-there-go n r h (ltb n 128) refl
 
 -- two octets that hold a number of 128 or more are its encoding
 two-back : (a b n : ℕ) (l r : List ℕ) → 128 ≤ a → a < 192 → b < 256 → (t : Bool) → leb 128 ((a - 128) * 256 + b) ≡ t
-    → pick t (ok ((a - 128) * 256 + b) l) (bad Longer) ≡ ok n r → (a ∷ b ∷ l ≡ encodeLength n ++ r) × (n < 16384)
+    → cond t (ok ((a - 128) * 256 + b) l) (bad Longer) ≡ ok n r → (a ∷ b ∷ l ≡ encodeLength n ++ r) × (n < 16384)
 unfolding encodeLength
 two-back a b n l r h k o true e q =
     let g : 128 ≤ (a - 128) * 256 + b = leb-true _ _ e in
@@ -106,12 +106,12 @@ two-back a b n l r h k o true e q =
     (rw (le-ltb _ _ w, x, y, f), omega arith)
 two-back a b n l r h k o false e q = absurd (bad-ok q)
 
-long-back : (a n : ℕ) (l r : List ℕ) → 128 ≤ a → Octets l → (t : Bool) → ltb a 192 ≡ t → pick t (secondOctet a l) (bad High) ≡ ok n r → (a ∷ l ≡ encodeLength n ++ r) × (n < 16384)
+long-back : (a n : ℕ) (l r : List ℕ) → 128 ≤ a → Octets l → (t : Bool) → ltb a 192 ≡ t → cond t (secondOctet a l) (bad High) ≡ ok n r → (a ∷ l ≡ encodeLength n ++ r) × (n < 16384)
 long-back a n [] r h o true e q = absurd (bad-ok q)
 long-back a n (b ∷ l) r h o true e q = two-back a b n l r h (ltb-true _ _ e) (o 0) (leb 128 ((a - 128) * 256 + b)) refl q
 long-back a n l r h o false e q = absurd (bad-ok q)
 
-short-back : (a n : ℕ) (l r : List ℕ) → Octets (a ∷ l) → (t : Bool) → ltb a 128 ≡ t → pick t (ok a l) (pick (ltb a 192) (secondOctet a l) (bad High)) ≡ ok n r
+short-back : (a n : ℕ) (l r : List ℕ) → Octets (a ∷ l) → (t : Bool) → ltb a 128 ≡ t → cond t (ok a l) (cond (ltb a 192) (secondOctet a l) (bad High)) ≡ ok n r
     → (a ∷ l ≡ encodeLength n ++ r) × (n < 16384)
 unfolding encodeLength
 short-back a n l r o true e q =

@@ -1,7 +1,7 @@
 -- Laws of numbers of a fixed count of octets, over the count; of a run of stores; of masks.
 use Prim.Native.Nat.{ℕ, zero, suc, _+_, _-_, _*_, _/_, _%_, _^_, _<_, _≤_}
 use mathlib.Core.Path.{_≡_, refl, sym, ap, _∙_}
-use mathlib.Core.Bool.{Bool, true, false}
+use mathlib.Core.Bool.{Bool, true, false, cond}
 use mathlib.Core.List.{List, [], _∷_, _++_, reverse, reverse-cons, reverse-reverse}
 use native.Mathlib.Omega.{arith}
 use native.Mathlib.Nat.{not-suc-le-zero, le-of-suc-le-suc, pow-suc, mul-assoc, mul-comm, add-zero, mul-add-div-right, lt-of-lt-of-le, mod-eq-of-lt, div-div-eq-div-mul}
@@ -13,7 +13,7 @@ use lib.Dec.{lit<, leb}
 use borrow.Author.Tests.{le-leb, lt-leb, leb-true}
 use lib.Pow.{pow-add, split}
 use lib.Bits.{bitAnd, and-mask, and-block}
-use Rattle.octets.specs.Reading.{bad, ok, pick, Octets}
+use Rattle.octets.specs.Reading.{bad, ok, Octets}
 use Rattle.octets.specs.Number.{number, octets, decodeNumber, bare}
 use Rattle.octets.specs.declared.Fault.the-variants.{Other}
 use Rattle.octets.proofs.Places.{bad-ok, octets-drop, octets-take}
@@ -241,7 +241,7 @@ pub number-back : (n : ℕ) (l : List ℕ) (x : ℕ) (r : List ℕ) → Octets l
 unfolding decodeNumber
 number-back n l x r o e = go (leb n (length l)) refl e
   where
-    go : (b : Bool) → leb n (length l) ≡ b → pick b (ok (number (take n l)) (drop n l)) (bad Other) ≡ ok x r → (l ≡ octets n x ++ r) × (x < 256 ^ n)
+    go : (b : Bool) → leb n (length l) ≡ b → cond b (ok (number (take n l)) (drop n l)) (bad Other) ≡ ok x r → (l ≡ octets n x ++ r) × (x < 256 ^ n)
     go true t q =
         let p : number (take n l) ≡ x = cc in
         let y : drop n l ≡ r = cc in

@@ -1,7 +1,7 @@
 -- Lists at a position, as the code's i + 1 has it; readings, their ends and their inversion.
 use Prim.Native.Nat.{ℕ, zero, suc, _+_, _-_, _<_, _≤_}
 use mathlib.Core.Path.{_≡_, refl, sym, ap}
-use mathlib.Core.Bool.{Bool, true, false, _&&_}
+use mathlib.Core.Bool.{Bool, true, false, _&&_, cond}
 use mathlib.Core.List.{List, [], _∷_, _++_}
 use native.Mathlib.Omega.{arith}
 use native.Mathlib.Numerals.{add-one}
@@ -9,7 +9,7 @@ use lib.ListN.{length, getD, take, drop, drop-of-length-le, length-drop}
 use lib.Seq.{drop-cons, drop-drop, getD-drop, getD-append-add}
 use lib.Dec.{lit<}
 use borrow.Author.Tests.{le-leb, lt-leb}
-use Rattle.octets.specs.Reading.{Read, bad, ok, pick, andThen, atEnd, forget, Octets, told, message}
+use Rattle.octets.specs.Reading.{Read, bad, ok, andThen, atEnd, forget, Octets, told, message}
 use Rattle.octets.specs.Layout.{Layout, takeRaw, entries, taken}
 use Rattle.octets.specs.declared.Fault.{Fault}
 use Rattle.octets.specs.declared.Fault.the-variants.{Other}
@@ -44,7 +44,7 @@ octets-rest u r o k = rw (← getD-append-add u r k 0) (o (length u + k))
 -- ---- tests
 
 -- a test that does not matter
-pub pick-same : {A : Type 0} (b : Bool) (x : A) → pick b x x ≡ x
+pub pick-same : {A : Type 0} (b : Bool) (x : A) → cond b x x ≡ x
 pick-same true x = refl
 pick-same false x = refl
 

@@ -1,11 +1,12 @@
 -- Each promise of this crate leaves one outcome: any two that it allows are equal.
 -- The promises of length_size, octets_of, part, version_of, fill_of and bare_tag are themselves equations for the result.
+use mathlib.Core.Bool.{cond}
 use Prim.Native.Nat.{ℕ, _≤_}
 use mathlib.Core.Path.{_≡_, refl, sym, ap, _∙_}
 use mathlib.Core.List.{List}
 use lib.ListN.{length, drop}
 use lib.Dec.{eqb}
-use Rattle.octets.specs.Reading.{ok, pick}
+use Rattle.octets.specs.Reading.{ok}
 use Rattle.octets.specs.Area.{Outcome, done, refused, outcome, Laid, Does}
 use Rattle.octets.specs.View.{lengthIn, lengthPlace, LengthAt, numberIn, numberPlace, NumberAt, dataIn, dataPlace, DataAt, headingIn, HeadingOf, enclosedIn, enclosedPlace, EnclosedOf}
 use Rattle.octets.specs.declared.Width.{Width}
@@ -73,7 +74,7 @@ module _ (s : List ℕ) where
 -- the writer's answer that an outcome stands for
 abbrev answer : Outcome → Written
 answer (done n) = Done n
-answer (refused n) = pick (eqb n 16) Refused NoRoom
+answer (refused n) = cond (eqb n 16) Refused NoRoom
 
 answer-is : (r : Written) → answer (outcome r) ≡ r
 answer-is (Done n) = refl

@@ -3,22 +3,21 @@
 -- octets past a written message keep their old content.
 use Prim.Native.Nat.{ℕ, _+_}
 use mathlib.Core.Path.{_≡_}
-use mathlib.Core.Bool.{Bool, true, false}
+use mathlib.Core.Bool.{Bool, true, false, cond}
 use mathlib.Core.List.{List, _++_}
 use lib.ListN.{length, drop}
 use lib.Seq.{sets}
 use lib.Dec.{ltb, leb}
-use Rattle.octets.specs.Reading.{pick}
 use Rattle.octets.specs.declared.Written.{Written}
 use Rattle.octets.specs.declared.Written.the-variants.{Done, Refused, NoRoom}
 
 -- the octets v laid at a place of an area, if the area has room for all of them
 unfoldable pub laid : List ℕ → ℕ → List ℕ → List ℕ
-laid old at v = pick (leb (at + length v) (length old)) (sets old at v) old
+laid old at v = cond (leb (at + length v) (length old)) (sets old at v) old
 
 -- where the next field starts; where there was no room, the same place
 unfoldable pub past : List ℕ → ℕ → List ℕ → ℕ
-past old at v = pick (leb (at + length v) (length old)) (at + length v) at
+past old at v = cond (leb (at + length v) (length old)) (at + length v) at
 
 -- what a writer of a field leaves: the area, and where the next field starts
 pub record Laid (old : List ℕ) (at : ℕ) (v new : List ℕ) (next : ℕ) : Type 0 where
@@ -44,7 +43,7 @@ outcome NoRoom = refused 300
 -- the answer and the area afterwards: 16 for a message that may not be written, then 300, "also writing nothing, and that test comes second";
 -- what lies past the message stays
 unfoldable pub written : Bool → List ℕ → List ℕ → Outcome × List ℕ
-written true m old = pick (ltb (length old) (length m)) (refused 300, old) (done (length m), m ++ drop (length m) old)
+written true m old = cond (ltb (length old) (length m)) (refused 300, old) (done (length m), m ++ drop (length m) old)
 written false m old = (refused 16, old)
 
 -- the same for lists that a caller hands over: where they describe no message at all, 16

@@ -1,12 +1,12 @@
 -- The frame around a body (document 01, 'Messages'): version in the high four bits with four zero fill bits; command type 1; operation type;
 -- security profile 0; length of the body; body. Over any table that gives an operation type its body's layout.
 use Prim.Native.Nat.{ℕ, _+_, _*_}
-use mathlib.Core.Bool.{Bool, _&&_}
+use mathlib.Core.Bool.{Bool, _&&_, cond}
 use mathlib.Core.List.{List, [], _∷_, _++_}
 use lib.ListN.{length}
 use lib.Seq.{sets}
 use lib.Dec.{ltb, leb, eqb}
-use Rattle.octets.specs.Reading.{Read, bad, ok, pick, andThen, atEnd}
+use Rattle.octets.specs.Reading.{Read, bad, ok, andThen, atEnd}
 use Rattle.octets.specs.Length.{encodeLength, decodeLength}
 use Rattle.octets.specs.Number.{versionPart, fillPart}
 use Rattle.octets.specs.Layout.{Layout}
@@ -31,8 +31,8 @@ openable version kind n = ltb version 16 && leb (length (opening version kind n)
 -- what opening a message gives, and the area with the octets before its body
 unfoldable pub opened : ℕ → ℕ → ℕ → List ℕ → Outcome × List ℕ
 opened version kind n old =
-    pick (openable version kind n)
-    (pick (ltb (length old) (length (opening version kind n) + n)) (refused 300, old) (done (length (opening version kind n)), sets old 0 (opening version kind n)))
+    cond (openable version kind n)
+    (cond (ltb (length old) (length (opening version kind n) + n)) (refused 300, old) (done (length (opening version kind n)), sets old 0 (opening version kind n)))
     (refused 16, old)
 
 -- a body of the layout L in its frame, written into an area
@@ -49,17 +49,17 @@ typed version (kind ∷ l) = ok (version, kind) l
 -- the command type before it: "command type absent or not 1" is a fault
 abbrev pub commanded : ℕ → List ℕ → Read (ℕ × ℕ)
 commanded version [] = bad Other
-commanded version (c ∷ l) = pick (eqb c 1) (typed version l) (bad Other)
+commanded version (c ∷ l) = cond (eqb c 1) (typed version l) (bad Other)
 
 -- version and operation type: "request empty" and "fill bits not zero" are faults
 unfoldable pub heading : List ℕ → Read (ℕ × ℕ)
 heading [] = bad Other
-heading (v ∷ l) = pick (eqb (fillPart v) 0) (commanded (versionPart v) l) (bad Other)
+heading (v ∷ l) = cond (eqb (fillPart v) 0) (commanded (versionPart v) l) (bad Other)
 
 -- what stands between operation type and body: "security profile absent or not 0; a length in another form; the body is not exactly the rest" are faults
 unfoldable pub enclosed : List ℕ → Read (Unit {0})
 enclosed [] = bad Other
-enclosed (p ∷ l) = pick (eqb p 0) (andThen (decodeLength l) (λ n r. pick (eqb n (length r)) (ok tt r) (bad Other))) (bad Other)
+enclosed (p ∷ l) = cond (eqb p 0) (andThen (decodeLength l) (λ n r. cond (eqb n (length r)) (ok tt r) (bad Other))) (bad Other)
 
 -- a message: its version, its operation type, its body
 pub record Message (A : Type 0) : Type 0 where
@@ -86,4 +86,4 @@ module _ {A : Type 0} where
 
   -- what octets are read as; a fault "if the octets are over 2,048"
   unfoldable pub receive : (ℕ → Layout A) → List ℕ → Read (Message A)
-  receive kinds s = pick (ltb 2048 (length s)) (bad Other) (decode kinds s)
+  receive kinds s = cond (ltb 2048 (length s)) (bad Other) (decode kinds s)

@@ -1,11 +1,11 @@
 -- A field's layout: how a value is written, how it is read from the front of the octets, and which values can be written. And the ways to join layouts.
 -- Every message of document 01 is made of these; proofs/Lawful shows once for each that what is written reads back, and that only that is read.
 use Prim.Native.Nat.{ℕ, zero, suc, _^_}
-use mathlib.Core.Bool.{Bool, true, _&&_}
+use mathlib.Core.Bool.{Bool, true, _&&_, cond}
 use mathlib.Core.List.{List, [], _∷_, _++_}
 use lib.ListN.{length, take, drop}
 use lib.Dec.{leb, ltb}
-use Rattle.octets.specs.Reading.{Read, bad, ok, pick, andThen}
+use Rattle.octets.specs.Reading.{Read, bad, ok, andThen}
 use Rattle.octets.specs.Length.{encodeLength, decodeLength}
 use Rattle.octets.specs.Number.{octets, decodeNumber}
 use Rattle.octets.specs.declared.Fault.the-variants.{Other}
@@ -26,7 +26,7 @@ size = record { put = encodeLength; get = decodeLength; fits = λ n. ltb n 16384
 
 -- n octets as they stand
 abbrev pub takeRaw : ℕ → List ℕ → Read (List ℕ)
-takeRaw n l = pick (leb n (length l)) (ok (take n l) (drop n l)) (bad Other)
+takeRaw n l = cond (leb n (length l)) (ok (take n l) (drop n l)) (bad Other)
 
 -- a length, and as many octets: the end of "tag, length, data"
 abbrev pub data' : Layout (List ℕ)
@@ -35,17 +35,17 @@ data' = record { put = λ d. encodeLength (length d) ++ d; get = λ l. andThen (
 module _ {A : Type 0} where
   -- the octets of a value that its field can hold; another value has none
   abbrev pub fieldOctets : Layout A → A → List ℕ
-  fieldOctets L a = pick (L .fits a) (L .put a) []
+  fieldOctets L a = cond (L .fits a) (L .put a) []
 
   -- a layout that a table has or lacks
   abbrev pub allowed : Bool → Layout A → Layout A
-  allowed b L = record { put = L .put; get = λ l. pick b (L .get l) (bad Other); fits = λ a. b && L .fits a }
+  allowed b L = record { put = L .put; get = λ l. cond b (L .get l) (bad Other); fits = λ a. b && L .fits a }
 
   -- only values that pass a test: "any other value there does not decode"
   abbrev pub only : (A → Bool) → Layout A → Layout A
   only p L = record {
     put = L .put;
-    get = λ l. andThen (L .get l) (λ a r. pick (p a) (ok a r) (bad Other));
+    get = λ l. andThen (L .get l) (λ a r. cond (p a) (ok a r) (bad Other));
     fits = λ a. L .fits a && p a;
   }
 

@@ -1,9 +1,10 @@
 -- Numbers of a fixed count of octets, high part first; the version octet; a tag's six ignored bits (document 01, 'Messages' and 'Tags').
+use mathlib.Core.Bool.{cond}
 use Prim.Native.Nat.{ℕ, zero, suc, _+_, _*_, _/_, _%_, _^_}
 use mathlib.Core.List.{List, [], _∷_}
 use lib.ListN.{length, take, drop}
 use lib.Dec.{leb}
-use Rattle.octets.specs.Reading.{Read, bad, ok, pick}
+use Rattle.octets.specs.Reading.{Read, bad, ok}
 use Rattle.octets.specs.declared.Fault.the-variants.{Other}
 use Rattle.octets.specs.declared.Width.{Width}
 use Rattle.octets.specs.declared.Width.the-variants.{One, Two, Four, Eight}
@@ -20,7 +21,7 @@ octets (suc n) x = (x / 256 ^ n % 256) ∷ octets n x
 
 -- a number of n octets at the front
 unfoldable pub decodeNumber : ℕ → List ℕ → Read ℕ
-decodeNumber n l = pick (leb n (length l)) (ok (number (take n l)) (drop n l)) (bad Other)
+decodeNumber n l = cond (leb n (length l)) (ok (number (take n l)) (drop n l)) (bad Other)
 
 -- how many octets a number's field has: the tables have one, two, four and eight
 abbrev pub widthOf : Width → ℕ

@@ -34,11 +34,6 @@ module _ {A : Type 0} where
   told (ok a r) = message a
   told (bad f) = refused 16 f
 
-  -- the one or the other, by a test
-  abbrev pub pick : Bool → A → A → A
-  pick true a b = a
-  pick false a b = b
-
   -- "the body does not decode to its last octet" is a fault
   abbrev pub atEnd : Read A → Read A
   atEnd (bad f) = bad f

@@ -1,10 +1,9 @@
 -- The table of operations (document 01, 'Messages'): seven, of which six are plain or with a password; with a password the number is 64 more.
 use Prim.Native.Nat.{ℕ, _+_, _-_}
-use mathlib.Core.Bool.{Bool, _&&_, _||_}
+use mathlib.Core.Bool.{Bool, _&&_, _||_, cond}
 use mathlib.Core.List.{List, [], _∷_}
 use lib.ListN.{getD}
 use lib.Dec.{leb}
-use Rattle.octets.specs.Reading.{pick}
 use Rattle.octets.specs.declared.Form.{Form}
 use Rattle.octets.specs.declared.Form.the-variants as f
 
@@ -43,7 +42,7 @@ known kind = leb kind 6 || (leb 65 kind && leb kind 70)
 
 -- the column of an operation type
 abbrev pub formAt : ℕ → Form
-formAt kind = pick (leb 65 kind) f.Password f.Plain
+formAt kind = cond (leb 65 kind) f.Password f.Plain
 
 -- the table's lines, from 0 on
 abbrev pub commands : List Command
@@ -51,4 +50,4 @@ commands = resourceInformation ∷ allocate ∷ free ∷ read ∷ write ∷ bulk
 
 -- the line of an operation type
 abbrev pub commandAt : ℕ → Command
-commandAt kind = getD commands (pick (leb 65 kind) (kind - 64) kind) resourceInformation
+commandAt kind = getD commands (cond (leb 65 kind) (kind - 64) kind) resourceInformation

@@ -2,7 +2,7 @@
 -- which the record with a number is another, then verdicts, then the steps. The laws of admission and of the store's steps are theirs.
 use Prim.Native.Nat.{ℕ}
 use mathlib.Core.Path.{_≡_, refl, sym, ap, _∙_}
-use mathlib.Core.Bool.{Bool, true}
+use mathlib.Core.Bool.{Bool, true, cond}
 use mathlib.Core.List.{List, [], _∷_, _++_}
 use native.Mathlib.Omega.{arith}
 use native.Mathlib.Decide.{ℕ-discrete}
@@ -10,7 +10,6 @@ use lib.ListN.{length}
 use lib.Dec.{eqb}
 use borrow.Author.Tests.{eq-eqb, ne-eqb}
 use Rattle.octets.specs.Number.{bare}
-use Rattle.octets.specs.Reading.{pick}
 use Rattle.octets.specs.declared.Access.{Access}
 use Rattle.octets.specs.declared.Access.the-variants.{Plain, Password}
 use Rattle.octets.specs.declared.Port.{Port}
@@ -57,7 +56,7 @@ module _ (n : ℕ) (t : Tag) (e : tagId t ≡ n) where
       go (yes q) f =
           ap (look tagId y) (Keys.change-yes tagId n (λ r. t) r m q) ∙ Keys.look-no tagId y t (put m) (λ z. o (sym z ∙ e)) ∙ f
           ∙ sym (Keys.look-no tagId y r m (λ z. o (sym z ∙ q)))
-      go (no q) f = ap (look tagId y) (Keys.change-no tagId n (λ r. t) r m q) ∙ ap (pick (eqb (tagId r) y) (here r)) f
+      go (no q) f = ap (look tagId y) (Keys.change-no tagId n (λ r. t) r m q) ∙ ap (cond (eqb (tagId r) y) (here r)) f
 
   -- areas of one size: all together take as much
   total-put : (m : List Tag) (s : Tag) → Apart tagId m → look tagId n m ≡ here s → s .about .size ≡ t .about .size → total (put m) ≡ total m
@@ -105,7 +104,7 @@ module _ (n : ℕ) (t : Tag) (e : tagId t ≡ n) where
   more-put : (r : Tag) (m : List Tag) → (tagId r ≡ n → ⊥) → put m ++ r ∷ [] ≡ put (m ++ r ∷ [])
   unfolding change
   more-put r [] o = rw (ne-eqb (tagId r) n o)
-  more-put r (w ∷ m) o = ap (λ (z : List Tag). pick (eqb (tagId w) n) t w ∷ z) (more-put r m o)
+  more-put r (w ∷ m) o = ap (λ (z : List Tag). cond (eqb (tagId w) n) t w ∷ z) (more-put r m o)
 
 -- ---- two records of the tag x, with the passwords a and b
 

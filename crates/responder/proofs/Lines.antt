@@ -1,13 +1,12 @@
 -- The lines of the table before the body: which operation types are fitted.
 use Prim.Native.Nat.{ℕ, _≤_}
-use mathlib.Core.Bool.{Bool, true, false, not, _&&_}
+use mathlib.Core.Bool.{Bool, true, false, not, _&&_, cond}
 use mathlib.Core.List.{List, [], _∷_}
 use mathlib.Core.Path.{_≡_, refl, ap, _∙_}
 use native.Mathlib.Omega.{arith}
 use lib.Dec.{eqb, ltb}
 use lib.ListN.{length, getD}
 use Rattle.octets.specs.Number.{versionPart, fillPart}
-use Rattle.octets.specs.Reading.{pick}
 use Rattle.admission.specs.declared.Head.{Head}
 use Rattle.requests.specs.Command.{known}
 use Rattle.requests.proofs.Readings.{Others, types, unknown-others}
@@ -37,13 +36,13 @@ unfitted a p kind o = rw (unknown-others kind o)
 
 abbrev pub linesBy : Head → List ℕ → Line
 linesBy h s =
-    pick (eqb (length s) 0) (number 16)
-    (pick (ltb (h .limits .message) (length s)) (number 16)
-    (pick (not (eqb (versionPart (getD s 0 0)) (h .version))) (number 4)
-    (pick (not (eqb (fillPart (getD s 0 0)) 0)) (number 16)
-    (pick (not (eqb (getD s 1 0) 1)) (number 16)
-    (pick (ltb (length s) 3) (number 16)
-    (pick (not (fitted (h .allocation) (h .passwords) (getD s 2 0))) (number 12)
+    cond (eqb (length s) 0) (number 16)
+    (cond (ltb (h .limits .message) (length s)) (number 16)
+    (cond (not (eqb (versionPart (getD s 0 0)) (h .version))) (number 4)
+    (cond (not (eqb (fillPart (getD s 0 0)) 0)) (number 16)
+    (cond (not (eqb (getD s 1 0) 1)) (number 16)
+    (cond (ltb (length s) 3) (number 16)
+    (cond (not (fitted (h .allocation) (h .passwords) (getD s 2 0))) (number 12)
     none))))))
 
 pub lines-are : (h : Head) (u : State) (s : List ℕ) (l : Line) → h ≡ headOf u → l ≡ linesBy h s → l ≡ firstLines u s

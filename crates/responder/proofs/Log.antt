@@ -2,12 +2,12 @@
 -- equal the sizes granted less the sizes freed over the unit's history"; 'Sizes': a unit is always what a start gave and the operations then changed.
 use Prim.Native.Nat.{ℕ, _+_, _≤_}
 use mathlib.Core.Path.{_≡_, refl, sym, ap, _∙_}
-use mathlib.Core.Bool.{Bool, true, false}
+use mathlib.Core.Bool.{Bool, true, false, cond}
 use mathlib.Core.List.{List, [], _∷_, _++_}
 use lib.Dec.{ltb}
 use lib.ListN.{length}
 use Rattle.octets.specs.Frame.{Message}
-use Rattle.octets.specs.Reading.{pick, Told, message, refused, told}
+use Rattle.octets.specs.Reading.{Told, message, refused, told}
 use Rattle.octets.specs.declared.Form.{Form}
 use Rattle.octets.specs.declared.Port.{Port}
 use Rattle.tags.specs.Entry.{Held}
@@ -70,7 +70,7 @@ unfolding afterAll
 served-calls u p (refused n fault) = refl
 served-calls u p (message m) = go (ltb (u .limits .list) (entriesOf (m .body)))
   where
-    go : (c : Bool) → pick c (deny u 7) (act u p (formAt (m .kind)) (m .body)) .unit ≡ afterAll u (pick c [] (callsOf p (m .body)))
+    go : (c : Bool) → cond c (deny u 7) (act u p (formAt (m .kind)) (m .body)) .unit ≡ afterAll u (cond c [] (callsOf p (m .body)))
     go true = refl
     go false = act-calls u p (formAt (m .kind)) (m .body)
 
@@ -85,7 +85,7 @@ pub respond-calls : (u : State) (p : Port) (s : List ℕ) (area : ℕ) → respo
 unfolding respond calls handled afterAll
 respond-calls u p s area = go (ltb area (u .limits .message))
   where
-    go : (c : Bool) → pick c (record { result = silent 300; unit = u }) (sent (handled u p s)) .unit ≡ afterAll u (pick c [] (callsLined u p s (firstLines u s)))
+    go : (c : Bool) → cond c (record { result = silent 300; unit = u }) (sent (handled u p s)) .unit ≡ afterAll u (cond c [] (callsLined u p s (firstLines u s)))
     go true = refl
     go false = lined-calls u p s (firstLines u s)
 

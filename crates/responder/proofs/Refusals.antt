@@ -2,13 +2,13 @@
 -- answer area is shorter than a message. Document 01, 'Denials and their order'.
 use Prim.Native.Nat.{ℕ, _<_}
 use mathlib.Core.Path.{_≡_, refl, sym, ap, _∙_}
-use mathlib.Core.Bool.{Bool, true, false}
+use mathlib.Core.Bool.{Bool, true, false, cond}
 use mathlib.Core.List.{List, [], _∷_}
 use native.Mathlib.Omega.{arith}
 use lib.ListN.{length}
 use lib.Dec.{eqb, ltb}
 use borrow.Author.Tests.{eq-eqb, lt-ltb, ltb-true}
-use Rattle.octets.specs.Reading.{Read, bad, ok, pick, Told, message, told}
+use Rattle.octets.specs.Reading.{Read, bad, ok, Told, message, told}
 use Rattle.octets.specs.Frame.{Message}
 use Rattle.octets.specs.declared.Access.{Access}
 use Rattle.octets.specs.declared.Form.{Form}
@@ -111,7 +111,7 @@ served-said : (u : State) (p : Port) (F : Type 0) (t : Read (Message q.Body)) �
 served-said u p F (bad t) h = refuses-by u F 16 refl refl
 served-said u p F (ok m t) h = go (ltb (u .limits .list) (entriesOf (m .body)))
   where
-    go : (c : Bool) → Said u F (pick c (deny u 7) (act u p (formAt (m .kind)) (m .body)))
+    go : (c : Bool) → Said u F (cond c (deny u 7) (act u p (formAt (m .kind)) (m .body)))
     go true = refuses-by u F 7 refl refl
     go false = act-said u p (formAt (m .kind)) F (m .body) (λ g. h m g refl)
 
@@ -159,8 +159,8 @@ pub refused-is : (u : State) (p : Port) (s : List ℕ) (area : ℕ) (d : Denial)
 unfolding respond
 refused-is u p s area d e = go (ltb area (u .limits .message)) e
   where
-    go : (t : Bool) → pick t (record { result = silent 300; unit = u }) (sent (handled u p s)) .result ≡ replied (denied d)
-        → Refused u s d (pick t (record { result = silent 300; unit = u }) (sent (handled u p s)) .unit)
+    go : (t : Bool) → cond t (record { result = silent 300; unit = u }) (sent (handled u p s)) .result ≡ replied (denied d)
+        → Refused u s d (cond t (record { result = silent 300; unit = u }) (sent (handled u p s)) .unit)
     go true q = let z : _≡_ {A = ℕ} 0 1 = cc in absurd (omega arith)
     go false q = said-refused u s (handled u p s) d (handled-said u p s) cc
 
@@ -193,8 +193,8 @@ module _ (u : State) (p : Port) (s : List ℕ) (area : ℕ) where
   unfolding respond
   silence n e = go (ltb area (u .limits .message)) refl e
     where
-      go : (t : Bool) → ltb area (u .limits .message) ≡ t → pick t (record { result = silent 300; unit = u }) (sent (handled u p s)) .result ≡ silent n
-          → (n ≡ 300) × (area < u .limits .message) × (pick t (record { result = silent 300; unit = u }) (sent (handled u p s)) .unit ≡ u)
+      go : (t : Bool) → ltb area (u .limits .message) ≡ t → cond t (record { result = silent 300; unit = u }) (sent (handled u p s)) .result ≡ silent n
+          → (n ≡ 300) × (area < u .limits .message) × (cond t (record { result = silent 300; unit = u }) (sent (handled u p s)) .unit ≡ u)
       go true t q = let z : 300 ≡ n = cc in (sym z, ltb-true _ _ t, refl)
       go false t q = let z : _≡_ {A = ℕ} 0 1 = cc in absurd (omega arith)
 

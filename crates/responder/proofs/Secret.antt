@@ -2,13 +2,13 @@
 -- reply and leaves the same unit, but for that record. From the operations up to sequences of commands; the store's steps are in Alike.
 use Prim.Native.Nat.{ℕ}
 use mathlib.Core.Path.{_≡_, refl, sym, ap, _∙_}
-use mathlib.Core.Bool.{Bool, true, false}
+use mathlib.Core.Bool.{Bool, true, false, cond}
 use mathlib.Core.List.{List, [], _∷_}
 use native.Mathlib.Omega.{arith}
 use lib.ListN.{length}
 use lib.Dec.{ltb}
 use Rattle.octets.specs.Frame.{Message}
-use Rattle.octets.specs.Reading.{pick, Told, message, refused, told}
+use Rattle.octets.specs.Reading.{Told, message, refused, told}
 use Rattle.octets.specs.declared.Access.the-variants.{Plain, Password}
 use Rattle.octets.specs.declared.Form.{Form}
 use Rattle.octets.specs.declared.Port.{Port}
@@ -34,7 +34,7 @@ use Rattle.responder.proofs.Alike.{swap, swapStep, Holds}
 use Rattle.responder.proofs.Alike
 
 -- two pairs alike: either of the one pair is like that of the other
-either-same : {A : Type 0} (R : A → A → Type 0) (c : Bool) (d e d′ e′ : A) → R d d′ → R e e′ → R (pick c d e) (pick c d′ e′)
+either-same : {A : Type 0} (R : A → A → Type 0) (c : Bool) (d e d′ e′ : A) → R d d′ → R e e′ → R (cond c d e) (cond c d′ e′)
 either-same R true d e d′ e′ h k = h
 either-same R false d e d′ e′ h k = k
 

@@ -2,14 +2,13 @@
 -- Used of whole replies in proofs/Refusals, and in proofs/Writable, where a status must fit its octet.
 use Prim.Native.Nat.{ℕ, _<_, _≤_}
 use mathlib.Core.Path.{_≡_, refl}
-use mathlib.Core.Bool.{Bool, true, false, not, _&&_, _||_}
+use mathlib.Core.Bool.{Bool, true, false, not, _&&_, _||_, cond}
 use mathlib.Core.List.{List, [], _∷_}
 use native.Mathlib.Omega.{arith}
 use lib.ListN.{length, getD}
 use lib.Dec.{eqb, ltb}
 use borrow.Author.Tests.{eqb-true, ltb-true}
 use Rattle.octets.specs.Number.{bare, versionPart, fillPart}
-use Rattle.octets.specs.Reading.{pick}
 use Rattle.octets.specs.declared.Access.{Access}
 use Rattle.octets.specs.declared.Port.{Port}
 use Rattle.octets.proofs.Places.{both, false-true}
@@ -54,7 +53,7 @@ pub status-small : (n : ℕ) → among n statuses ≡ true → n < 256
 status-small n e = ltb-true n 256 (among-passes (λ x. ltb x 256) n statuses refl e)
 
 -- what holds of both holds of either
-pub either : {A : Type 0} (P : A → Type 0) (b : Bool) (x y : A) → P x → P y → P (pick b x y)
+pub either : {A : Type 0} (P : A → Type 0) (b : Bool) (x y : A) → P x → P y → P (cond b x y)
 either P true x y h k = h
 either P false x y h k = k
 

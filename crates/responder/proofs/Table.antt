@@ -3,13 +3,12 @@
 -- there is what demand 3 speaks of: two such units, and commands that carry neither password.
 use Prim.Native.Nat.{ℕ, zero, suc}
 use native.Mathlib.Omega.{arith}
-use mathlib.Core.Bool.{Bool, true, false}
+use mathlib.Core.Bool.{Bool, true, false, cond}
 use mathlib.Core.List.{List, [], _∷_, _++_, map}
 use mathlib.Core.Path.{_≡_, refl}
 use Rattle.octets.specs.Length.{decodeLength}
 use Rattle.octets.specs.Number.{number, decodeNumber, bare}
 use Rattle.octets.specs.Frame.{heading, enclosed, decode, receive}
-use Rattle.octets.specs.Reading.{pick}
 use Rattle.octets.specs.declared.Access.the-variants.{Plain, Password}
 use Rattle.octets.specs.declared.Port.{Port}
 use Rattle.octets.specs.declared.Port.the-variants.{Normal, Secure}
@@ -52,7 +51,7 @@ K3F = 0x3F11223344556677
 -- those of the n from k on that are in the table with their options fitted
 abbrev from : Bool → Bool → ℕ → ℕ → List ℕ
 from allocation passwords k zero = []
-from allocation passwords k (suc n) = pick (fitted allocation passwords k) (k ∷ from allocation passwords (suc k) n) (from allocation passwords (suc k) n)
+from allocation passwords k (suc n) = cond (fitted allocation passwords k) (k ∷ from allocation passwords (suc k) n) (from allocation passwords (suc k) n)
 
 -- of all 256
 abbrev types : List (List ℕ × List ℕ)

@@ -2,7 +2,7 @@
 -- entry by entry, then the operations and the whole. Relies on the codec's laws of what fits, and on a unit in order: an area has at most 1,024 octets, a list 16 entries.
 use Prim.Native.Nat.{ℕ, suc, _+_, _*_, _^_, _<_, _≤_}
 use mathlib.Core.Path.{_≡_, refl, sym}
-use mathlib.Core.Bool.{Bool, true, false, _&&_}
+use mathlib.Core.Bool.{Bool, true, false, _&&_, cond}
 use mathlib.Core.List.{List, [], _∷_, _++_}
 use native.Mathlib.Omega.{arith}
 use native.Mathlib.Nat.{zero-mul, suc-mul}
@@ -11,7 +11,7 @@ use lib.Dec.{eqb, leb, ltb}
 use borrow.Author.Tests.{le-leb, lt-ltb, leb-true, ltb-true, ltb-false}
 use Rattle.octets.specs.Length.{encodeLength}
 use Rattle.octets.specs.Number.{bare}
-use Rattle.octets.specs.Reading.{Read, bad, ok, pick, message, told, Octets}
+use Rattle.octets.specs.Reading.{Read, bad, ok, message, told, Octets}
 use Rattle.octets.specs.Layout.{Layout, putAll, fitAll, listOf}
 use Rattle.octets.specs.Frame.{Message, opening, openable, writable}
 use Rattle.octets.specs.declared.Access.the-variants.{Plain}
@@ -108,7 +108,7 @@ pub writable-short : (a : Answer) → answerWritable a ≡ true → length (answ
 unfolding answerRead
 writable-short a h = go (ltb 2048 (length (answerOctets a))) refl (answer-written-reads a h)
   where
-    go : (t : Bool) → ltb 2048 (length (answerOctets a)) ≡ t → pick t (bad Other) (decodeAnswer (answerOctets a)) ≡ ok a [] → length (answerOctets a) ≤ 2048
+    go : (t : Bool) → ltb 2048 (length (answerOctets a)) ≡ t → cond t (bad Other) (decodeAnswer (answerOctets a)) ≡ ok a [] → length (answerOctets a) ≤ 2048
     go true e q = absurd (bad-ok q)
     go false e q = ltb-false _ _ e
 
@@ -288,7 +288,7 @@ pub given-gathered : (u : State) (n : ℕ) (hs : List Held) (x : ℕ) (c : Conte
     → Gathered (u .limits .area) (suc n) (given hs x c)
 given-gathered u n hs x (content xs) a h g k = go (leb (length (bodyPut (b.bulkRead (hs ++ (named x, xs) ∷ [])))) 2042) refl
   where
-    go : (t : Bool) → leb (length (bodyPut (b.bulkRead (hs ++ (named x, xs) ∷ [])))) 2042 ≡ t → Gathered (u .limits .area) (suc n) (pick t (hs ++ (named x, xs) ∷ []) hs)
+    go : (t : Bool) → leb (length (bodyPut (b.bulkRead (hs ++ (named x, xs) ∷ [])))) 2042 ≡ t → Gathered (u .limits .area) (suc n) (cond t (hs ++ (named x, xs) ∷ []) hs)
     go true e = record {
       entries = fits-more (memory f.Plain) n hs (named x, xs) (k .entries) (held-fits x xs h (omega arith));
       small = small-more (u .limits .area) hs (named x, xs) (k .small) g;
@@ -320,7 +320,7 @@ resources-writable version x rs v h k =
 pub capped-low : (most n : ℕ) → capped most n ≤ most
 capped-low most n = go (ltb most n) refl
   where
-    go : (t : Bool) → ltb most n ≡ t → pick t most n ≤ most
+    go : (t : Bool) → ltb most n ≡ t → cond t most n ≤ most
     go true e = omega arith
     go false e = ltb-false _ _ e
 
@@ -479,7 +479,7 @@ pub served-fine : (u : State) (p : Port) (r : Read (Message q.Body)) → Valid u
 served-fine u p (bad t) o h = deny-fine u 16 o refl
 served-fine u p (ok m r) o h = go (ltb (u .limits .list) (entriesOf (m .body))) refl
   where
-    go : (t : Bool) → ltb (u .limits .list) (entriesOf (m .body)) ≡ t → Fine (pick t (deny u 7) (act u p (formAt (m .kind)) (m .body)))
+    go : (t : Bool) → ltb (u .limits .list) (entriesOf (m .body)) ≡ t → Fine (cond t (deny u 7) (act u p (formAt (m .kind)) (m .body)))
     go true e = deny-fine u 7 o refl
     go false e = act-fine u p (formAt (m .kind)) (formAt (m .kind)) (m .body) o (h m refl) (omega (arith, ltb-false (u .limits .list) (entriesOf (m .body)) e, o .shared .list))
 
@@ -497,7 +497,7 @@ pub replied-is : (u : State) (p : Port) (s : List ℕ) (area : ℕ) (a : Answer)
 unfolding respond
 replied-is u p s area a e = go (ltb area (u .limits .message)) e
   where
-    go : (t : Bool) → pick t (record { result = silent 300; unit = u }) (sent (handled u p s)) .result ≡ replied a → handled u p s .reply ≡ a
+    go : (t : Bool) → cond t (record { result = silent 300; unit = u }) (sent (handled u p s)) .result ≡ replied a → handled u p s .reply ≡ a
     go true q = let z : _≡_ {A = ℕ} 0 1 = cc in absurd (omega arith)
     go false q = cc
 

@@ -1,10 +1,11 @@
 -- The store's calls that commands amount to: what a log of requests did to a unit, in the words of the store's history (store/specs/History).
 -- An allocation, a free and a write are one call each, a bulk write is its writes in order; everything else, refusals by the first lines too, is none.
+use mathlib.Core.Bool.{cond}
 use Prim.Native.Nat.{ℕ}
 use mathlib.Core.List.{List, [], _∷_, _++_}
 use lib.Dec.{ltb}
 use Rattle.octets.specs.Frame.{Message}
-use Rattle.octets.specs.Reading.{pick, Told, message, refused, told}
+use Rattle.octets.specs.Reading.{Told, message, refused, told}
 use Rattle.octets.specs.declared.Port.{Port}
 use Rattle.tags.specs.Entry.{Held}
 use Rattle.requests.specs.Request.{requestRead}
@@ -33,7 +34,7 @@ callsOf p (q.bulkWrite hs) = writesOf p hs
 -- a request that decodes, with no more entries than a list may have
 abbrev pub callsTold : State → Port → Told (Message q.Body) → List Call
 callsTold u p (refused n fault) = []
-callsTold u p (message m) = pick (ltb (u .limits .list) (entriesOf (m .body))) [] (callsOf p (m .body))
+callsTold u p (message m) = cond (ltb (u .limits .list) (entriesOf (m .body))) [] (callsOf p (m .body))
 
 -- a request that no first line denies
 abbrev pub callsLined : State → Port → List ℕ → Line → List Call
@@ -42,7 +43,7 @@ callsLined u p s none = callsTold u p (told (requestRead s))
 
 -- a command: by which port, the octets sent, and the length of the answer area
 unfoldable pub calls : State → Port → List ℕ → ℕ → List Call
-calls u p s area = pick (ltb area (u .limits .message)) [] (callsLined u p s (firstLines u s))
+calls u p s area = cond (ltb area (u .limits .message)) [] (callsLined u p s (firstLines u s))
 
 -- commands one after another
 unfoldable pub allCalls : State → List Command → List Call

@@ -1,12 +1,12 @@
 -- What the unit replies to a request, and the unit that it leaves. Document 01, 'Denials and their order' and 'Lists': made of the codec's reading, the store's steps,
 -- which ask the one admission, and the codec's answers. No slice in sight.
 use Prim.Native.Nat.{ℕ, _*_}
-use mathlib.Core.Bool.{Bool, not, _&&_, _||_}
+use mathlib.Core.Bool.{Bool, not, _&&_, _||_, cond}
 use mathlib.Core.List.{List, [], _∷_, _++_}
 use lib.ListN.{length, getD}
 use lib.Dec.{eqb, leb, ltb}
 use Rattle.octets.specs.Number.{bare, versionPart, fillPart}
-use Rattle.octets.specs.Reading.{pick, Told, message, refused, told}
+use Rattle.octets.specs.Reading.{Told, message, refused, told}
 use Rattle.octets.specs.Frame.{Message}
 use Rattle.octets.specs.declared.Access.the-variants.{Plain}
 use Rattle.octets.specs.declared.Form.{Form}
@@ -39,7 +39,7 @@ pub record Done : Type 0 where
 
 -- "The length is 0, except that status 4 carries one octet, the unit's own version octet"
 abbrev pub supplementOf : ℕ → ℕ → List ℕ
-supplementOf version number = pick (eqb number 4) (version * 16 ∷ []) []
+supplementOf version number = cond (eqb number 4) (version * 16 ∷ []) []
 
 -- "Denial: the unit's own version octet, 255, status, length of supplement, supplement." (table 3.2-41)
 abbrev pub denial : ℕ → ℕ → Answer
@@ -94,7 +94,7 @@ readDone u p w k = shown u w (k .0) (readStep u (k .0) p (k .1))
 
 -- "one too great for its field is shown as the field's largest"
 abbrev pub capped : ℕ → ℕ → ℕ
-capped most n = pick (ltb most n) most n
+capped most n = cond (ltb most n) most n
 
 -- "its remaining tags and octets", of non-volatile and of volatile memory the same; "Its largest receivable size is 2,048 octets and its bulk limit 16" (tables 3.2-5, 3.2-6)
 abbrev pub roomOf : State → Room
@@ -144,7 +144,7 @@ resourcesDone u ks = grant u f.Plain (b.resourceInformation (roomOf u, allTold u
 
 -- "an entry is also passed over if with it the answer's body would exceed 2,042 octets, count included"
 abbrev pub given : List Held → ℕ → Content → List Held
-given hs x (content xs) = pick (leb (length (bodyPut (b.bulkRead (hs ++ (named x, xs) ∷ [])))) 2042) (hs ++ (named x, xs) ∷ []) hs
+given hs x (content xs) = cond (leb (length (bodyPut (b.bulkRead (hs ++ (named x, xs) ∷ [])))) 2042) (hs ++ (named x, xs) ∷ []) hs
 given hs x (s.denied number) = hs
 
 -- the entries of a bulk read in turn, behind those given before
@@ -220,13 +220,13 @@ pub data Line : Type 0 where
 -- the table's lines from "request empty or over 2,048 octets" to "operation type not in the table, or its option not fitted": "The first line that applies decides."
 unfoldable pub firstLines : State → List ℕ → Line
 firstLines u s =
-    pick (eqb (length s) 0) (number 16)
-    (pick (ltb (u .limits .message) (length s)) (number 16)
-    (pick (not (eqb (versionPart (getD s 0 0)) (u .version))) (number 4)
-    (pick (not (eqb (fillPart (getD s 0 0)) 0)) (number 16)
-    (pick (not (eqb (getD s 1 0) 1)) (number 16)
-    (pick (ltb (length s) 3) (number 16)
-    (pick (not (fitted (u .allocation) (u .passwords) (getD s 2 0))) (number 12)
+    cond (eqb (length s) 0) (number 16)
+    (cond (ltb (u .limits .message) (length s)) (number 16)
+    (cond (not (eqb (versionPart (getD s 0 0)) (u .version))) (number 4)
+    (cond (not (eqb (fillPart (getD s 0 0)) 0)) (number 16)
+    (cond (not (eqb (getD s 1 0) 1)) (number 16)
+    (cond (ltb (length s) 3) (number 16)
+    (cond (not (fitted (u .allocation) (u .passwords) (getD s 2 0))) (number 12)
     none))))))
 
 -- "more than 16 entries in a list, resource information included"
@@ -242,7 +242,7 @@ entriesOf (q.bulkWrite hs) = length hs
 -- the lines of the body: the number of a request that does not decode, 7, and then the operation
 abbrev pub served : State → Port → Told (Message q.Body) → Done
 served u p (refused n fault) = deny u n
-served u p (message m) = pick (ltb (u .limits .list) (entriesOf (m .body))) (deny u 7) (act u p (formAt (m .kind)) (m .body))
+served u p (message m) = cond (ltb (u .limits .list) (entriesOf (m .body))) (deny u 7) (act u p (formAt (m .kind)) (m .body))
 
 -- a request whose first lines say so much
 abbrev pub lined : State → Port → List ℕ → Line → Done
@@ -271,4 +271,4 @@ sent d = record { result = replied (d .reply); unit = d .unit }
 
 -- 300, "to the caller, no answer": "answer area shorter than 2,048 octets"
 unfoldable pub respond : State → Port → List ℕ → ℕ → Out
-respond u p s area = pick (ltb area (u .limits .message)) (record { result = silent 300; unit = u }) (sent (handled u p s))
+respond u p s area = cond (ltb area (u .limits .message)) (record { result = silent 300; unit = u }) (sent (handled u p s))

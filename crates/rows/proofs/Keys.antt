@@ -1,14 +1,13 @@
 -- Laws of lists whose elements have a number. Assumes nothing.
 use mathlib.Core.Path.{_≡_, refl, sym, ap, _∙_}
 use mathlib.Core.List.{List, [], _∷_, _++_}
-use mathlib.Core.Bool.{Bool, true, false}
+use mathlib.Core.Bool.{Bool, true, false, cond}
 use Prim.Native.Nat.{ℕ, zero, suc, _<_}
 use native.Mathlib.Omega.{arith}
 use native.Mathlib.Decide.{ℕ-discrete}
 use lib.ListN.{length, getD, set}
 use lib.Dec.{eqb}
 use borrow.Author.Tests.{eq-eqb, ne-eqb}
-use Rattle.octets.specs.Reading.{pick}
 use Rattle.rows.specs.Keyed.{Maybe, nowhere, here, look, change, unless, without, Apart}
 use Rattle.rows.proofs.Places.{remove}
 
@@ -132,7 +131,7 @@ module _ {A : Type 0} (key : A → ℕ) where
   none-change y x g k [] h = h
   none-change y x g k (t ∷ ts) h = go (eqb (key t) x) (none-change y x g k ts (none-tail y t ts h))
     where
-      go : (b : Bool) → look key y (change key x g ts) ≡ nowhere → look key y (pick b (g t) t ∷ change key x g ts) ≡ nowhere
+      go : (b : Bool) → look key y (change key x g ts) ≡ nowhere → look key y (cond b (g t) t ∷ change key x g ts) ≡ nowhere
       go true r = look-no y (g t) (change key x g ts) (λ e. none-head y t ts h (sym (k t) ∙ e)) ∙ r
       go false r = look-no y t (change key x g ts) (none-head y t ts h) ∙ r
 
@@ -142,7 +141,7 @@ module _ {A : Type 0} (key : A → ℕ) where
   apart-change x g k [] p = p
   apart-change x g k (t ∷ ts) p = go (eqb (key t) x) (apart-change x g k ts (p .1))
     where
-      go : (b : Bool) → Apart key (change key x g ts) → (look key (key (pick b (g t) t)) (change key x g ts) ≡ nowhere) × Apart key (change key x g ts)
+      go : (b : Bool) → Apart key (change key x g ts) → (look key (key (cond b (g t) t)) (change key x g ts) ≡ nowhere) × Apart key (change key x g ts)
       go true r = (rw (k t) (none-change (key t) x g k ts (p .0)), r)
       go false r = (none-change (key t) x g k ts (p .0), r)
 
@@ -206,7 +205,7 @@ module _ {A : Type 0} (key : A → ℕ) where
       go (yes e) f =
           ap (look key y) (change-yes x g t ts e) ∙ look-no y (g t) (change key x g ts) (λ q. n (sym q ∙ k t ∙ e)) ∙ f
           ∙ sym (look-no y t ts (λ q. n (sym q ∙ e)))
-      go (no m) f = ap (look key y) (change-no x g t ts m) ∙ ap (pick (eqb (key t) y) (here t)) f
+      go (no m) f = ap (look key y) (change-no x g t ts m) ∙ ap (cond (eqb (key t) y) (here t)) f
 
   -- what is gone is not found
   pub look-without : (x : ℕ) (l : List A) → look key x (without key x l) ≡ nowhere
@@ -226,7 +225,7 @@ module _ {A : Type 0} (key : A → ℕ) where
     where
       go : Dec (key t ≡ x) → look key y (without key x ts) ≡ look key y ts → look key y (without key x (t ∷ ts)) ≡ look key y (t ∷ ts)
       go (yes e) f = ap (look key y) (without-yes x t ts e) ∙ f ∙ sym (look-no y t ts (λ q. n (sym q ∙ e)))
-      go (no m) f = ap (look key y) (without-no x t ts m) ∙ ap (pick (eqb (key t) y) (here t)) f
+      go (no m) f = ap (look key y) (without-no x t ts m) ∙ ap (cond (eqb (key t) y) (here t)) f
 
   -- what comes last is found, unless its number was there
   pub look-add : (x : ℕ) (t : A) (l : List A) → key t ≡ x → look key x l ≡ nowhere → look key x (l ++ t ∷ []) ≡ here t
@@ -237,4 +236,4 @@ module _ {A : Type 0} (key : A → ℕ) where
   pub look-add-other : (y : ℕ) (t : A) (l : List A) → (key t ≡ y → ⊥) → look key y (l ++ t ∷ []) ≡ look key y l
   unfolding look
   look-add-other y t [] n = look-no y t [] n
-  look-add-other y t (u ∷ us) n = ap (pick (eqb (key u) y) (here u)) (look-add-other y t us n)
+  look-add-other y t (u ∷ us) n = ap (cond (eqb (key u) y) (here u)) (look-add-other y t us n)

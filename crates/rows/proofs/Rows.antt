@@ -1,7 +1,7 @@
 -- The table's words and its slots: what the functions of this crate do to a table that is the image of slots. Assumes nothing.
 use mathlib.Core.Path.{_≡_, refl, sym, ap, _∙_}
 use mathlib.Core.List.{List, [], _∷_, _++_, append-nil, append-assoc, flatMap}
-use mathlib.Core.Bool.{Bool, true, false}
+use mathlib.Core.Bool.{Bool, true, false, cond}
 use Prim.Native.Nat.{ℕ, zero, suc, _+_, _-_, _*_, _≤_, _<_, _/_}
 use native.Mathlib.Omega.{arith}
 use native.Mathlib.Decide.{ℕ-discrete}
@@ -9,7 +9,6 @@ use lib.ListN.{length, take, drop, getD, set, replicate, length-append, length-d
 use lib.Dec.{eqb, ltb}
 use lib.Seq.{sets, length-sets, length-take-le, take-suc, drop-cons, set-at, getD-at, take-all, drop-length}
 use borrow.Author.Tests.{eq-eqb, ne-eqb, eqb-true, eqb-false, le-leb, lt-leb, le-ltb, lt-ltb, ltb-true, ltb-false}
-use Rattle.octets.specs.Reading.{pick}
 use Rattle.octets.specs.Area.{laid}
 use Rattle.octets.specs.declared.Access.{Access}
 use Rattle.admission.specs.Mode.{modeCode, codeSpf, codeMode}
@@ -152,7 +151,7 @@ slot-add ss s k n e h =
 pub rows-in : (t : List ℕ) (count : ℕ) → count * 8 ≤ length t → rowsIn t count ≡ count
 rows-in t count h = go (ltb count (length t / 8)) refl
   where
-    go : (b : Bool) → ltb count (length t / 8) ≡ b → pick b count (length t / 8) ≡ count
+    go : (b : Bool) → ltb count (length t / 8) ≡ b → cond b count (length t / 8) ≡ count
     go true e = refl
     go false e = omega (arith, ltb-false count (length t / 8) e)
 
@@ -160,7 +159,7 @@ rows-in t count h = go (ltb count (length t / 8)) refl
 pub rows-fit : (t : List ℕ) (count : ℕ) → rowsIn t count * 8 ≤ length t
 rows-fit t count = go (ltb count (length t / 8)) refl
   where
-    go : (b : Bool) → ltb count (length t / 8) ≡ b → pick b count (length t / 8) * 8 ≤ length t
+    go : (b : Bool) → ltb count (length t / 8) ≡ b → cond b count (length t / 8) * 8 ≤ length t
     go true e = omega (arith, ltb-true count (length t / 8) e)
     go false e = omega arith
 
@@ -192,7 +191,7 @@ unfolding scan
 scan-found t x k zero i e = absurd (not-at i (sym e))
 scan-found t x k (suc n) i e = go (eqb (getD t (k * 8) 0) x) refl e (scan-found t x (suc k) n i)
   where
-    go : (b : Bool) → eqb (getD t (k * 8) 0) x ≡ b → pick b (Row.At k) (scan t x (suc k) n) ≡ Row.At i
+    go : (b : Bool) → eqb (getD t (k * 8) 0) x ≡ b → cond b (Row.At k) (scan t x (suc k) n) ≡ Row.At i
         → (scan t x (suc k) n ≡ Row.At i → (i < suc k + n) × (getD t (i * 8) 0 ≡ x)) → (i < k + suc n) × (getD t (i * 8) 0 ≡ x)
     go true q f g = let j : k ≡ i = at-same k i f in (omega arith, rw (← j) (eqb-true (getD t (k * 8) 0) x q))
     go false q f g = (omega (arith, g f .0), g f .1)
@@ -203,7 +202,7 @@ unfolding scan
 scan-missing t x k zero e i h l q = omega arith
 scan-missing t x k (suc n) e i h l q = go (eqb (getD t (k * 8) 0) x) refl e (ℕ-discrete k i) (scan-missing t x (suc k) n)
   where
-    go : (b : Bool) → eqb (getD t (k * 8) 0) x ≡ b → pick b (Row.At k) (scan t x (suc k) n) ≡ Row.Nothing → Dec (k ≡ i)
+    go : (b : Bool) → eqb (getD t (k * 8) 0) x ≡ b → cond b (Row.At k) (scan t x (suc k) n) ≡ Row.Nothing → Dec (k ≡ i)
         → (scan t x (suc k) n ≡ Row.Nothing → (i : ℕ) → suc k ≤ i → i < suc k + n → getD t (i * 8) 0 ≡ x → ⊥) → ⊥
     go true p f d g = not-at k f
     go false p f (yes j) g = eqb-false (getD t (k * 8) 0) x p (rw j q)

@@ -1,10 +1,9 @@
 -- Lists whose elements have a number, and what is done by that number.
 use Prim.Native.Nat.{ℕ}
 use mathlib.Core.Path.{_≡_}
-use mathlib.Core.Bool.{Bool, true, false}
+use mathlib.Core.Bool.{Bool, true, false, cond}
 use mathlib.Core.List.{List, [], _∷_}
 use lib.Dec.{eqb}
-use Rattle.octets.specs.Reading.{pick}
 
 -- what a search gives
 pub data Maybe (A : Type 0) : Type 0 where
@@ -15,12 +14,12 @@ module _ {A : Type 0} where
   -- the first whose number is x
   unfoldable pub look : (A → ℕ) → ℕ → List A → Maybe A
   look key x [] = nowhere
-  look key x (t ∷ ts) = pick (eqb (key t) x) (here t) (look key x ts)
+  look key x (t ∷ ts) = cond (eqb (key t) x) (here t) (look key x ts)
 
   -- g of each whose number is x
   unfoldable pub change : (A → ℕ) → ℕ → (A → A) → List A → List A
   change key x g [] = []
-  change key x g (t ∷ ts) = pick (eqb (key t) x) (g t) t ∷ change key x g ts
+  change key x g (t ∷ ts) = cond (eqb (key t) x) (g t) t ∷ change key x g ts
 
   -- t and the rest, or the rest alone
   abbrev pub unless : Bool → A → List A → List A

@@ -1,11 +1,10 @@
 -- A slot, and the eight words of its row: the tag, where its area starts, the area's size, the held length, mode and SPF, whether there is a password, the password,
 -- and a word that is zero. A row that is not used has the words of the empty slot, which are zero.
 use Prim.Native.Nat.{ℕ, zero, suc, _+_, _-_, _*_, _/_}
-use mathlib.Core.Bool.{false}
+use mathlib.Core.Bool.{false, cond}
 use mathlib.Core.List.{List, [], _∷_}
 use lib.ListN.{length, getD, set}
 use lib.Dec.{eqb, leb, ltb}
-use Rattle.octets.specs.Reading.{pick}
 use Rattle.octets.specs.declared.Access.{Access}
 use Rattle.octets.specs.declared.Access.the-variants.{Plain, Password}
 use Rattle.admission.specs.Mode.{modeCode, codeSpf, codeMode}
@@ -52,7 +51,7 @@ words s =
 
 -- the lock that the two words of it stand for
 abbrev pub lockOf : ℕ → ℕ → Access
-lockOf l p = pick (eqb l 0) Plain (Password p)
+lockOf l p = cond (eqb l 0) Plain (Password p)
 
 -- the slot that the eight words from j on stand for
 unfoldable pub slotIn : List ℕ → ℕ → Slot
@@ -70,28 +69,28 @@ slotIn t j = record {
 
 -- the slot in row i; past the table, the empty one
 unfoldable pub slotAt : List ℕ → ℕ → Slot
-slotAt t i = pick (leb (i * 8 + 8) (length t)) (slotIn t (i * 8)) empty
+slotAt t i = cond (leb (i * 8 + 8) (length t)) (slotIn t (i * 8)) empty
 
 -- the table with another held length in row i; past the table, as it was
 unfoldable pub withHeld : List ℕ → ℕ → ℕ → List ℕ
-withHeld t i n = pick (leb (i * 8 + 8) (length t)) (set t (i * 8 + 3) n) t
+withHeld t i n = cond (leb (i * 8 + 8) (length t)) (set t (i * 8 + 3) n) t
 
 -- ---- finding a row
 
 -- how many of `count` rows the table has
 abbrev pub rowsIn : List ℕ → ℕ → ℕ
-rowsIn t count = pick (ltb count (length t / 8)) count (length t / 8)
+rowsIn t count = cond (ltb count (length t / 8)) count (length t / 8)
 
 -- the first of the n rows from k on whose tag is x
 unfoldable pub scan : List ℕ → ℕ → ℕ → ℕ → Row
 scan t x k zero = Nothing
-scan t x k (suc n) = pick (eqb (getD t (k * 8) 0) x) (At k) (scan t x (suc k) n)
+scan t x k (suc n) = cond (eqb (getD t (k * 8) 0) x) (At k) (scan t x (suc k) n)
 
 -- ---- a row goes
 
 -- a place behind `at` comes down by n; any other stays
 abbrev pub low : ℕ → ℕ → ℕ → ℕ
-low at n a = pick (ltb at a) (a - n) a
+low at n a = cond (ltb at a) (a - n) a
 
 -- so do the places in the words of the first k rows
 unfoldable pub sunk : ℕ → ℕ → List ℕ → ℕ → List ℕ
@@ -101,8 +100,8 @@ sunk at n t (suc k) = set (sunk at n t k) (k * 8 + 1) (low at n (getD (sunk at n
 -- row i of `count` goes: the rows behind it move up, the last is zero, and the areas behind its area start earlier by its size
 unfoldable pub removed : List ℕ → ℕ → ℕ → List ℕ
 removed t count i =
-    pick (ltb i count)
-    (pick (leb (count * 8) (length t))
+    cond (ltb i count)
+    (cond (leb (count * 8) (length t))
     (sunk (slotIn t (i * 8) .at) (slotIn t (i * 8) .about .size) (closed t (i * 8) 8 (count * 8)) (count - 1))
     t)
     t

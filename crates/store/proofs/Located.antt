@@ -1,7 +1,7 @@
 -- Where the tags' areas stand: the slots of tags one after another, and what a change, a tag less and a tag more do to them.
 use Prim.Native.Nat.{ℕ, zero, suc, _+_, _≤_, _<_}
 use mathlib.Core.Path.{_≡_, refl, sym, ap, _∙_}
-use mathlib.Core.Bool.{Bool, true, false}
+use mathlib.Core.Bool.{Bool, true, false, cond}
 use mathlib.Core.List.{List, [], _∷_, _++_}
 use native.Mathlib.Omega.{arith}
 use native.Mathlib.Nat.{add-zero}
@@ -9,7 +9,6 @@ use native.Mathlib.Decide.{decLt}
 use lib.ListN.{length, take, getD}
 use lib.Dec.{eqb}
 use borrow.Author.Tests.{lt-ltb, le-ltb}
-use Rattle.octets.specs.Reading.{pick}
 use Rattle.rows.specs.Keyed.{nowhere, look, change, without, Apart}
 use Rattle.rows.specs.Row.{empty, slotTag, low}
 use Rattle.rows.specs.declared.Slot.{Slot}
@@ -54,8 +53,8 @@ located-change k (t ∷ m) x xs = go (eqb (tagId t) x) (located-change (k + t .a
   where
     go : (b : Bool)
         → located (k + t .about .size) (change tagId x (written xs) m) ≡ change slotTag x (refilled (length xs)) (located (k + t .about .size) m)
-        → located k (pick b (written xs t) t ∷ change tagId x (written xs) m)
-        ≡ pick b (refilled (length xs) (slotOf k t)) (slotOf k t) ∷ change slotTag x (refilled (length xs)) (located (k + t .about .size) m)
+        → located k (cond b (written xs t) t ∷ change tagId x (written xs) m)
+        ≡ cond b (refilled (length xs) (slotOf k t)) (slotOf k t) ∷ change slotTag x (refilled (length xs)) (located (k + t .about .size) m)
     go true r = ap (λ (l : List Slot). slotOf k (written xs t) ∷ l) r
     go false r = ap (λ (l : List Slot). slotOf k t ∷ l) r
 

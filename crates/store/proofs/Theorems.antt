@@ -2,14 +2,13 @@
 -- back, and six bits of a tag do not matter. Document 01, 'Tags'. All of it is said of the steps; every entry does what its step does.
 use Prim.Native.Nat.{ℕ, zero, suc, _+_, _<_, _≤_}
 use mathlib.Core.Path.{_≡_, refl, sym, ap, _∙_}
-use mathlib.Core.Bool.{Bool, true, false}
+use mathlib.Core.Bool.{Bool, true, false, cond}
 use mathlib.Core.List.{List, [], _∷_}
 use native.Mathlib.Omega.{arith}
 use native.Mathlib.Decide.{decLt}
 use lib.ListN.{length, getD, take}
 use lib.Dec.{eqb}
 use Rattle.octets.specs.Number.{bare}
-use Rattle.octets.specs.Reading.{pick}
 use Rattle.octets.specs.declared.Access.{Access}
 use Rattle.octets.specs.declared.Port.{Port}
 use Rattle.octets.specs.declared.Port.the-variants.{Secure}
@@ -110,12 +109,12 @@ known-change x y xs [] = refl
 known-change x y xs (t ∷ m) = changed (eqb (tagId t) x) (known-change x y xs m)
   where
     chosen : (c : Bool) (s : Tag) → s .about ≡ t .about → knownOf (look tagId y (change tagId x (written xs) m)) ≡ knownOf (look tagId y m)
-        → knownOf (pick c (here s) (look tagId y (change tagId x (written xs) m))) ≡ knownOf (pick c (here t) (look tagId y m))
+        → knownOf (cond c (here s) (look tagId y (change tagId x (written xs) m))) ≡ knownOf (cond c (here t) (look tagId y m))
     chosen true s q r = ap (λ (b : Attributes). k.Tag b) q
     chosen false s q r = r
 
     changed : (b : Bool) → knownOf (look tagId y (change tagId x (written xs) m)) ≡ knownOf (look tagId y m)
-        → knownOf (look tagId y (pick b (written xs t) t ∷ change tagId x (written xs) m)) ≡ knownOf (look tagId y (t ∷ m))
+        → knownOf (look tagId y (cond b (written xs t) t ∷ change tagId x (written xs) m)) ≡ knownOf (look tagId y (t ∷ m))
     changed true r = chosen (eqb (tagId t) y) (written xs t) refl r
     changed false r = chosen (eqb (tagId t) y) t refl r
 

@@ -2,7 +2,7 @@
 -- tags that a step leaves, then the steps. What a verdict tells comes from the laws of admission.
 use Prim.Native.Nat.{ℕ, zero, suc, _+_, _<_, _≤_}
 use mathlib.Core.Path.{_≡_, refl, sym, ap, _∙_}
-use mathlib.Core.Bool.{Bool, true, false}
+use mathlib.Core.Bool.{Bool, true, false, cond}
 use mathlib.Core.List.{List, [], _∷_, _++_}
 use native.Mathlib.Omega.{arith}
 use native.Mathlib.Decide.{ℕ-discrete}
@@ -10,7 +10,6 @@ use lib.ListN.{length, getD, take, drop, length-append}
 use lib.Dec.{eqb}
 use borrow.Author.Tests.{eq-eqb, ne-eqb}
 use Rattle.octets.specs.Number.{bare}
-use Rattle.octets.specs.Reading.{pick}
 use Rattle.octets.specs.declared.Access.{Access}
 use Rattle.octets.specs.declared.Port.{Port}
 use Rattle.octets.specs.declared.Port.the-variants.{Secure}
@@ -170,7 +169,7 @@ unfolding total change
 total-change x g k [] = refl
 total-change x g k (t ∷ m) = go (eqb (tagId t) x) (total-change x g k m)
   where
-    go : (b : Bool) → total (change tagId x g m) ≡ total m → total (pick b (g t) t ∷ change tagId x g m) ≡ t .about .size + total m
+    go : (b : Bool) → total (change tagId x g m) ≡ total m → total (cond b (g t) t ∷ change tagId x g m) ≡ t .about .size + total m
     go true r = omega (arith, k t)
     go false r = omega arith
 

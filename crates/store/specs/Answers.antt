@@ -1,12 +1,11 @@
 -- What the answers of this crate's operations say: document 01's numbers and values, case by case.
 use Prim.Native.Nat.{ℕ, _+_, _≤_}
 use mathlib.Core.Path.{_≡_}
-use mathlib.Core.Bool.{Bool}
+use mathlib.Core.Bool.{Bool, cond}
 use mathlib.Core.List.{List}
 use lib.ListN.{length}
 use lib.Dec.{ltb}
 use Rattle.octets.specs.Number.{bare}
-use Rattle.octets.specs.Reading.{pick}
 use Rattle.octets.specs.View.{within}
 use Rattle.octets.specs.declared.Access.{Access}
 use Rattle.octets.specs.declared.Port.{Port}
@@ -41,7 +40,7 @@ begun s.Refused = refused 301
 
 -- "Start gives 301 for a version above 15 and makes no unit"
 unfoldable pub started : Limits → ℕ → Bool → Bool → Begun
-started l v a p = pick (ltb 15 v) (refused 301) (made (headOf (newUnit l v a p)))
+started l v a p = cond (ltb 15 v) (refused 301) (made (headOf (newUnit l v a p)))
 
 -- ---- operations that change the unit
 

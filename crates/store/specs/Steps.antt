@@ -1,11 +1,10 @@
 -- What each operation answers, and what unit it leaves. Document 01, 'Tags' and 'Denials and their order'. No slice in sight; tags are compared with the six bits
 -- ignored, and every operation on a tag asks the one admission, but for finding it, which tells what is registered.
 use Prim.Native.Nat.{ℕ, _-_}
-use mathlib.Core.Bool.{Bool}
+use mathlib.Core.Bool.{Bool, cond}
 use mathlib.Core.List.{List, [], _∷_, _++_}
 use lib.ListN.{length}
 use Rattle.octets.specs.Number.{bare}
-use Rattle.octets.specs.Reading.{pick}
 use Rattle.octets.specs.declared.Access.{Access}
 use Rattle.octets.specs.declared.Port.{Port}
 use Rattle.octets.specs.declared.Port.the-variants.{Secure}
@@ -97,4 +96,4 @@ readStep u x p a = contentBy (verdict u x Read p a) (heldBy (registered u x))
 
 -- "its remaining tags and octets are 32 and 8,192 less what is registered, or 0 and 0 if allocation is not fitted": by the head's numbers, which are the unit's
 abbrev pub remainder : Head → Remaining
-remainder h = record { tags = pick (h .allocation) (h .limits .tags - h .count) 0; octets = pick (h .allocation) (h .limits .memory - h .used) 0 }
+remainder h = record { tags = cond (h .allocation) (h .limits .tags - h .count) 0; octets = cond (h .allocation) (h .limits .memory - h .used) 0 }
