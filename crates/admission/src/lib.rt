@@ -1,6 +1,8 @@
 // Admission: whether a unit lets an operation through, or the number that refuses it.
 // Rules: document 01, 'Denials and their order'. Every operation on a tag has its function here, but for the one that tells what is registered. The rule is
 // one for all, `admission`: of its tests the first decides in one order, 6, 12, 11, 10, 8, 9, 5. Each function has those tests that its operation needs.
+#![tactic(auto)]
+
 ghost use Rattle.std.specs.Prelude.{◌≡◌, ℕ, ◌≤◌};
 ghost use Rattle.admission.specs.Mode.{mode_code, code_spf, low_mode, code_mode};
 ghost use Rattle.admission.specs.Admission.{unit_managed, lock_unfitted, port_bars, lock_bars, use_bars, bad_size, no_room, admission};
@@ -9,7 +11,7 @@ ghost use Rattle.admission.specs.Want.{Known, is_tag, Tag, Allocate, Fit, Free, 
 use octets::{Access, Port};
 
 // How a tag may be used.
-#[derive(Drop)]
+#[derive(Clone, Copy)]
 pub enum Mode {
     Both,
     ReadOnly,
@@ -17,7 +19,7 @@ pub enum Mode {
 }
 
 // The fixed limits of a kind of unit.
-#[derive(Drop)]
+#[derive(Clone, Copy)]
 pub struct Limits {
     pub tags: usize,
     pub memory: usize,
@@ -27,7 +29,7 @@ pub struct Limits {
 }
 
 // A unit but for its table and its memory. `count` tags are registered, and their areas take `used` octets.
-#[derive(Drop)]
+#[derive(Clone, Copy)]
 pub struct Head {
     pub limits: Limits,
     pub version: u8,
@@ -38,7 +40,7 @@ pub struct Head {
 }
 
 // What is fixed of a tag while it is registered. A tag without a password has the plain lock.
-#[derive(Drop)]
+#[derive(Clone, Copy)]
 pub struct Attributes {
     pub tag: u64,
     pub size: usize,
@@ -48,7 +50,7 @@ pub struct Attributes {
 }
 
 // Document 01's number is the denial's own.
-#[derive(Drop)]
+#[derive(Clone, Copy)]
 pub enum Verdict {
     Allowed,
     Denied(u8),

@@ -1,6 +1,8 @@
 // The answers of document 01, 'Messages', and the denial: each body read in place, and each written. Reader and writer stand side by side.
 // The main statement: read_answer tells of any octets what specs/Answer says they are, and the writers write what it reads back. On octets, tags, lists and
 // resources, by their contracts; the table of operations is that of requests.
+#![tactic(auto)]
+
 ghost use Rattle.std.specs.Prelude.{[]};
 ghost use Rattle.octets.specs.Area.{Does};
 ghost use Rattle.lists.specs.Handed.{keys_of};
@@ -17,7 +19,7 @@ use resources::{ResourcesRead, Room};
 use tags::{Key, Memory};
 
 // What an accepted request was answered with. Each says whether the request had passwords; the answer itself has none.
-#[derive(Drop)]
+#[derive(Clone, Copy)]
 pub enum Given {
     // Always to a plain request.
     Resources(Room, Entries),
@@ -29,7 +31,7 @@ pub enum Given {
     BulkWrite(Form, Entries),
 }
 
-#[derive(Drop)]
+#[derive(Clone, Copy)]
 pub enum Reply {
     Accepted {
         version: u8,
@@ -43,7 +45,7 @@ pub enum Reply {
     Bad(Fault),
 }
 
-#[derive(Drop)]
+#[derive(Clone, Copy)]
 enum Decoded {
     Good(Given),
     Bad(Fault),

@@ -2,6 +2,8 @@
 // that a C program includes are include/taxeedhuul.h.
 // Rules: document 01. What a caller passes that is not the unit's memory is refused by the documents' numbers, as minus that number (specs/Result); a refusal touches
 // nothing. The one thing asked is that a unit's three slices are what these functions left (`Kept`, specs/Slices). On all the crates below, by their contracts.
+#![tactic(auto)]
+
 ghost use Rattle.std.specs.Prelude.{◌≡◌, [], ◌+◌, ◌<◌, ◌≤◌, length, get_or, replicate};
 ghost use Rattle.std.proofs.lemmas.List.Edits.{sets};
 ghost use Rattle.octets.specs.Area.{refused, outcome};

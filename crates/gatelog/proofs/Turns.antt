@@ -1,11 +1,11 @@
--- Laws of a turn: what `log::step` promises, with what becomes of the places in each of its cases, is what a turn promises.
+-- Laws of a turn: what `records::step` promises, with what becomes of the places in each of its cases, is what a turn promises.
 use mathlib.Core.Path.{◌≡◌, refl, sym, ◌∙◌}
 use mathlib.Core.Bool.{Bool, true, false, cond}
 use mathlib.Core.List.{List}
 use Prim.Native.Nat.{ℕ}
 use native.Mathlib.Omega.{arith}
-use Rattle.log.specs.Entry.{Word, word_of, Out, Stepped}
-use Rattle.log.specs.declared.Outcome.{Outcome}
+use Rattle.records.specs.Entry.{Word, word_of, Out, Stepped}
+use Rattle.records.specs.declared.Outcome.{Outcome}
 use Rattle.gatelog.specs.Place.{Emptied, Moved, TurnTaken}
 use Rattle.gatelog.specs.declared.Place.{Place}
 

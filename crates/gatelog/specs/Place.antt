@@ -2,7 +2,7 @@
 use Rattle.std.specs.Prelude.{ℕ, ◌+◌, ◌-◌, ◌*◌, ◌≤◌, ◌≡◌, Bool, true, false, cond, List, length, take, drop, eqb}
 use Rattle.admission.specs.declared.Head.{Head}
 use Rattle.store.specs.Model.{Shows}
-use Rattle.log.specs.Entry.{Word, wants-more, used-written, closed, refusal, Out}
+use Rattle.records.specs.Entry.{Word, wants-more, used-written, closed, refusal, Out}
 use Rattle.gatelog.specs.declared.Place.{Place}
 
 -- at first nothing is read, answered or written, and the program is to go on

@@ -1,20 +1,22 @@
 // The gate log program: a log of records from standard input, a line for each to standard output.
-// Document 01, 'The gate log program'. What is printed for what input is `output` (log/specs/Output), and `log::step` does all of it but reading and writing; that the
-// calls may be made piece by piece, as here, is the theorem `pieces` (log/proofs/Theorems). No contract can speak of what is read and written.
+// Document 01, 'The gate log program'. What is printed for what input is `output` (records/specs/Output), and `records::step` does all of it but reading and writing; that the
+// calls may be made piece by piece, as here, is the theorem `pieces` (records/proofs/Theorems). No contract can speak of what is read and written.
+#![tactic(auto)]
+
 ghost use Rattle.std.specs.Prelude.{◌≡◌, ◌-◌, ◌≤◌, ◌<◌, length, take, drop};
 ghost use Rattle.std.proofs.lemmas.List.Edits.{sets};
 ghost use Rattle.store.specs.Model.{State, Shows, Sound};
-ghost use Rattle.log.specs.Output.{first_unit};
-ghost use Rattle.log.specs.Entry.{step_out};
+ghost use Rattle.records.specs.Output.{first_unit};
+ghost use Rattle.records.specs.Entry.{step_out};
 ghost use Rattle.gatelog.specs.Place.{first_place, Within, Roomy, enough_turns, at_hand, Emptied, Tried, Refilled, TurnTaken};
 
 use admission::Head;
-use log::Turn;
+use records::Turn;
 use store::{Start, Unit};
 
 // Where the program stands: the unit's head, how many records are answered, the octets at hand (from `start` to `end` of the input buffer), how many characters are not
 // yet written, how many were handed over to be written last, whether the input is at its end, and whether to go on.
-#[derive(Drop)]
+#[derive(Clone, Copy)]
 struct Place {
     head: Head,
     answered: u32,
@@ -89,7 +91,7 @@ fn read_more(mut place: Place, input: &mut [u8]) -> Place
     place
 }
 
-// One turn: `log::step` on the octets at hand, and what it says of them done (specs/Place, `TurnTaken`). Before it reads, everything that was answered is written.
+// One turn: `records::step` on the octets at hand, and what it says of them done (specs/Place, `TurnTaken`). Before it reads, everything that was answered is written.
 fn go_on(
     mut place: Place,
     table: &mut [u64],
@@ -108,7 +110,7 @@ fn go_on(
     let start = place.start;
     let filled = place.filled;
     let octets = octets::part(input, start, place.end - start);
-    let step = log::step(
+    let step = records::step(
         place.head,
         table,
         pool,

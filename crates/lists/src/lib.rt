@@ -1,5 +1,7 @@
 // Lists of tags and of memory data, plain or with passwords: read in place, and written from slices side by side, as the body of a message.
 // Rules: document 01, 'Messages'; what slices describe in specs/Handed. On octets and tags, by their contracts.
+#![tactic(auto)]
+
 ghost use Rattle.std.specs.Prelude.{◌≡◌, true, ◌+◌, ◌≤◌, ◌<◌, length};
 ghost use Rattle.octets.specs.Layout.{put_all};
 ghost use Rattle.octets.specs.Area.{Does, Wrote};
@@ -128,7 +130,7 @@ pub fn write_keys(
     }
 }
 
-#[derive(Drop)]
+#[derive(Clone, Copy)]
 enum Measure {
     Octets(usize),
     // A part that does not lie within the octets, or more than 2,048 octets.

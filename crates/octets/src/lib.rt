@@ -1,5 +1,7 @@
 // Octets: the fields that every message of document 01 is made of, read in place by a reader and written into a slice that the caller lends.
 // Rules: document 01, 'Messages' and 'Tags'. What each function means stands in specs/; no function asks anything of its caller.
+#![tactic(auto)]
+
 ghost use Rattle.std.specs.Prelude.{◌≡◌, reverse, ◌+◌, ◌-◌, ◌≤◌, length, take, drop};
 ghost use Rattle.std.proofs.lemmas.List.Edits.{sets};
 ghost use Rattle.octets.specs.Length.{encode_length};
@@ -10,7 +12,7 @@ ghost use Rattle.octets.specs.Frame.{opened};
 ghost use Rattle.octets.specs.View.{LengthAt, NumberAt, DataAt, HeadingOf, EnclosedOf};
 
 // What is wrong with octets that do not decode. The first three are of a length or a count alone.
-#[derive(Drop)]
+#[derive(Clone, Copy)]
 pub enum Fault {
     // Octets are missing, the second of a two-octet length included.
     Missing,
@@ -22,21 +24,21 @@ pub enum Fault {
 }
 
 // How a command shows its right to a tag: not at all, or by a password. Any 64 bits are a password, zero too.
-#[derive(Drop)]
+#[derive(Clone, Copy)]
 pub enum Access {
     Plain,
     Password(u64),
 }
 
 // By which port a command came.
-#[derive(Drop)]
+#[derive(Clone, Copy)]
 pub enum Port {
     Normal,
     Secure,
 }
 
 // Whether the tags of a message come plain or each with its password.
-#[derive(Drop)]
+#[derive(Clone, Copy)]
 pub enum Form {
     Plain,
     Password,
@@ -46,7 +48,7 @@ pub enum Form {
 
 // Octets that are read in place, and the place where the reader stands. A function of a reader takes it apart and calls one of a slice and a place;
 // read_length, read_number, part and left_at make the reader for their callers.
-#[derive(Drop)]
+#[derive(Clone, Copy)]
 pub struct Reader<'a> {
     pub src: &'a [u8],
     pub at: usize,
@@ -86,7 +88,7 @@ pub fn left_at(s: &[u8], at: usize) -> usize
 
 // ---- lengths and counts
 
-#[derive(Drop)]
+#[derive(Clone, Copy)]
 pub enum Length {
     Value { n: usize, next: usize },
     Bad(Fault),
@@ -163,7 +165,7 @@ pub fn write_length(out: &mut [u8], at: usize, n: usize) -> usize
 // ---- numbers of a fixed count of octets
 
 // How many octets a number's field has.
-#[derive(Drop)]
+#[derive(Clone, Copy)]
 pub enum Width {
     One,
     Two,
@@ -182,7 +184,7 @@ pub fn octets_of(width: Width) -> usize
     }
 }
 
-#[derive(Drop)]
+#[derive(Clone, Copy)]
 pub enum Number {
     Value { n: u64, next: usize },
     Bad,
@@ -321,13 +323,13 @@ fn turned(x: u64) -> u64
 // ---- data
 
 // A part of a slice.
-#[derive(Drop)]
+#[derive(Clone, Copy)]
 pub struct Span {
     pub start: usize,
     pub len: usize,
 }
 
-#[derive(Drop)]
+#[derive(Clone, Copy)]
 pub enum Data {
     Value { span: Span, next: usize },
     Bad(Fault),
@@ -355,13 +357,13 @@ pub fn read_data(s: &[u8], at: usize) -> Data
 }
 
 // A list that stands in a message: where its first entry starts, and how many there are.
-#[derive(Drop)]
+#[derive(Clone, Copy)]
 pub struct Entries {
     pub start: usize,
     pub count: usize,
 }
 
-#[derive(Drop)]
+#[derive(Clone, Copy)]
 pub enum Listing {
     Value { list: Entries, next: usize },
     Bad(Fault),
@@ -443,7 +445,7 @@ pub fn bare_tag(tag: u64) -> u64
 // ---- the frame around a body
 
 // What became of octets that were to be written into an area.
-#[derive(Drop)]
+#[derive(Clone, Copy)]
 pub enum Written {
     // They stand there: how many they are.
     Done(usize),
@@ -475,7 +477,7 @@ pub fn open_message(out: &mut [u8], version: u8, kind: u8, body: usize) -> Writt
     Written::Done(start)
 }
 
-#[derive(Drop)]
+#[derive(Clone, Copy)]
 pub enum Heading {
     Of { version: u8, kind: u8 },
     Bad,
@@ -500,7 +502,7 @@ pub fn read_heading(s: &[u8]) -> Heading
     }
 }
 
-#[derive(Drop)]
+#[derive(Clone, Copy)]
 pub enum Enclosed {
     // Where the body starts; it is exactly the rest.
     From(usize),

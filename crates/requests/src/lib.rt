@@ -1,6 +1,8 @@
 // The requests of document 01, 'Messages': each operation's body read in place, and each written, plain or with passwords. Reader and writer stand side by side.
 // The main statement: read_request tells of any octets what specs/Request says they are, and the writers write what it reads back. On octets, tags, lists and
 // resources, by their contracts.
+#![tactic(auto)]
+
 ghost use Rattle.std.specs.Prelude.{[], ◌≡◌};
 ghost use Rattle.octets.specs.Area.{Does};
 ghost use Rattle.tags.specs.Entry.{form_of};
@@ -15,7 +17,7 @@ use resources::{Allocation, AllocationRead};
 use tags::Key;
 
 // What a request asks. A single operation carries its access; in a bulk list each entry has its own, and the operation says whether the entries have passwords.
-#[derive(Drop)]
+#[derive(Clone, Copy)]
 pub enum Operation {
     // Tags, always plain.
     Resources(Entries),
@@ -27,13 +29,13 @@ pub enum Operation {
     BulkWrite(Form, Entries),
 }
 
-#[derive(Drop)]
+#[derive(Clone, Copy)]
 pub enum Request {
     Message { version: u8, operation: Operation },
     Bad(Fault),
 }
 
-#[derive(Drop)]
+#[derive(Clone, Copy)]
 enum Decoded {
     Good(Operation),
     Bad(Fault),

@@ -1,5 +1,7 @@
 // Allocation and resource information: the two bodies with modes and sizes. Read in place; written with their frame into a lent area.
 // Rules: document 01, 'Messages', and tables 3.2-5 to 3.2-9 and 3.2-25; layouts in specs/Resource. On octets and tags, by their contracts.
+#![tactic(auto)]
+
 ghost use Rattle.std.specs.Prelude.{◌≡◌, ◌+◌, ◌*◌, ◌≤◌, ◌<◌, length};
 ghost use Rattle.octets.specs.Layout.{put_all};
 ghost use Rattle.octets.specs.Area.{Does, Wrote};
@@ -39,7 +41,7 @@ pub fn read_mode(s: &[u8], at: usize) -> Number
 
 // ---- allocation
 
-#[derive(Drop)]
+#[derive(Clone, Copy)]
 pub struct Allocation {
     pub tag: u64,
     pub mode: u8,
@@ -48,7 +50,7 @@ pub struct Allocation {
     pub initial: Span,
 }
 
-#[derive(Drop)]
+#[derive(Clone, Copy)]
 pub enum AllocationRead {
     Value { allocation: Allocation, next: usize },
     Bad(Fault),
@@ -138,7 +140,7 @@ pub fn write_allocation(
 // ---- resource information
 
 // What a unit can take: the largest message, the remaining tags and octets of non-volatile and of volatile memory, and the most entries of a bulk list.
-#[derive(Drop)]
+#[derive(Clone, Copy)]
 pub struct Room {
     pub largest: u32,
     pub tags: u16,
@@ -148,7 +150,7 @@ pub struct Room {
     pub entries: u16,
 }
 
-#[derive(Drop)]
+#[derive(Clone, Copy)]
 pub enum RoomRead {
     Value { room: Room, next: usize },
     Bad,
@@ -196,7 +198,7 @@ pub fn read_room(s: &[u8], at: usize) -> RoomRead
 }
 
 // What is told of one tag: its mode, its data size and its area size.
-#[derive(Drop)]
+#[derive(Clone, Copy)]
 pub struct Resource {
     pub tag: u64,
     pub mode: u8,
@@ -204,7 +206,7 @@ pub struct Resource {
     pub size: u32,
 }
 
-#[derive(Drop)]
+#[derive(Clone, Copy)]
 pub enum ResourceRead {
     Value { resource: Resource, next: usize },
     Bad,
@@ -256,7 +258,7 @@ fn walk_resources(s: &[u8], start: usize, count: usize) -> Listing
     }
 }
 
-#[derive(Drop)]
+#[derive(Clone, Copy)]
 pub enum ResourcesRead {
     Value {
         room: Room,

@@ -1,6 +1,8 @@
 // The responder: the unit's answer to the octets of a request, on either port.
 // Rules: document 01, 'Denials and their order' and 'Lists'. The main statement stands at `respond`: reply, answer area and unit are those of the definition `respond`
 // (specs/Respond); the three demands are specs/Demands. On the codec and the store, by their contracts.
+#![tactic(auto)]
+
 ghost use Rattle.std.specs.Prelude.{◌≡◌, true, ◌&&◌, List, [], ℕ, ◌+◌, ◌≤◌, ◌<◌, length, take};
 ghost use Rattle.octets.specs.Layout.{every};
 ghost use Rattle.octets.specs.View.{entries_in};
@@ -22,13 +24,13 @@ use store::{Found, Held};
 use tags::{Key, Memory};
 
 // The length of the answer; or 300, and there is none.
-#[derive(Drop)]
+#[derive(Clone, Copy)]
 pub enum Sent {
     Answer(usize),
     NoRoom,
 }
 
-#[derive(Drop)]
+#[derive(Clone, Copy)]
 pub struct Reply {
     pub head: Head,
     pub sent: Sent,
@@ -92,7 +94,7 @@ fn is_fitted(allocation: bool, passwords: bool, kind: u8) -> bool
     }
 }
 
-#[derive(Drop)]
+#[derive(Clone, Copy)]
 enum Line {
     Denied(u8),
     Passed,
@@ -401,7 +403,7 @@ fn serve_resources(head: Head, table: &[u64], s: &[u8], list: Entries, answer: &
 // ---- bulk read
 
 // Entries chosen so far, and the octets that they take.
-#[derive(Drop)]
+#[derive(Clone, Copy)]
 struct Chosen {
     count: usize,
     size: usize,

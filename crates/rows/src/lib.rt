@@ -1,6 +1,8 @@
 // The unit's table: a row of eight words for each registered tag, in one slice that the unit's owner lends. A row says what is fixed of the tag, where its area
 // starts in the memory, and how many octets are held there. Only get_slot and put_slot know all of a row's words; put_held, find_row and remove_row each
 // look at one, the held length, the tag, and where the area starts. What a row is stands in specs/Row; no public function asks anything of its caller.
+#![tactic(auto)]
+
 ghost use Rattle.std.specs.Prelude.{◌≡◌, ◌+◌, ◌-◌, ◌*◌, ◌≤◌, length, take, drop};
 ghost use Rattle.std.proofs.lemmas.List.Edits.{sets};
 ghost use Rattle.octets.specs.Number.{bare};
@@ -11,7 +13,7 @@ use admission::{Attributes, Mode};
 use octets::Access;
 
 // A row.
-#[derive(Drop)]
+#[derive(Clone, Copy)]
 pub struct Slot {
     pub about: Attributes,
     pub at: usize,
@@ -41,7 +43,7 @@ impl Slot {
 }
 
 // Where a tag's row is.
-#[derive(Drop)]
+#[derive(Clone, Copy)]
 pub enum Row {
     At(usize),
     Nothing,

@@ -2,6 +2,8 @@
 // Rules: document 01, 'Sizes', 'Tags', the per-operation rules of 'Denials and their order', and 'Lists' for the remaining numbers. A unit is a head by value, a table
 // and a memory that its owner lends; what they stand for is `State` (specs/Model), and what each operation answers and does to it stands in specs/Steps.
 // An operation asks nothing of its caller but that head, table and memory are what a start and the operations gave.
+#![tactic(auto)]
+
 ghost use Rattle.std.specs.Prelude.{◌≡◌, List, ℕ, ◌+◌, ◌-◌, ◌*◌, ◌≤◌, ◌<◌, length, replicate};
 ghost use Rattle.std.proofs.lemmas.List.Edits.{sets};
 ghost use Rattle.octets.specs.Area.{laid};
@@ -22,13 +24,13 @@ use rows::{Row, Slot};
 
 // A unit's table and memory; the rest of the unit is its head. Of the first kind: 32 tags, 8,192 octets for all areas together, areas of 1 to 1,024 octets, requests
 // and answers of at most 2,048, lists of at most 16 entries.
-#[derive(Drop)]
+#[derive(Clone, Copy)]
 pub struct Unit {
     pub table: [u64; Unit::WORDS],
     pub pool: [u8; Unit::MEMORY],
 }
 
-#[derive(Drop)]
+#[derive(Clone, Copy)]
 pub enum Start {
     Made(Head),
     // 301.
@@ -84,7 +86,7 @@ impl Unit {
 
 // ---- operations that change nothing
 
-#[derive(Drop)]
+#[derive(Clone, Copy)]
 pub enum Found {
     Tag { about: Attributes, held: usize },
     Nothing,
@@ -108,7 +110,7 @@ pub fn find(head: Head, table: &[u64], tag: u64) -> Found
     }
 }
 
-#[derive(Drop)]
+#[derive(Clone, Copy)]
 pub struct Remaining {
     pub tags: usize,
     pub octets: usize,
@@ -137,7 +139,7 @@ pub fn remainder(head: Head) -> Remaining
     Remaining { tags: 0, octets: 0 }
 }
 
-#[derive(Drop)]
+#[derive(Clone, Copy)]
 pub enum Held {
     // The place of the data in the memory.
     Data(Span),
@@ -227,7 +229,7 @@ pub fn write(
 // ---- free
 
 // What an operation that changes which tags there are leaves of the head, and its verdict.
-#[derive(Drop)]
+#[derive(Clone, Copy)]
 pub struct Outcome {
     pub head: Head,
     pub verdict: Verdict,

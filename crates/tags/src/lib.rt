@@ -1,5 +1,7 @@
 // The entries that name a tag: a tag, and memory data, each plain or with a password. Read in place; written into a lent area, alone or as the body of a message.
 // Rules: document 01, 'Messages'; layouts in specs/Entry. On octets, by its contracts.
+#![tactic(auto)]
+
 ghost use Rattle.std.specs.Prelude.{◌≡◌, true, ◌≤◌};
 ghost use Rattle.octets.specs.Layout.{field_octets};
 ghost use Rattle.octets.specs.Area.{Laid, Does};
@@ -11,7 +13,7 @@ use octets::{Access, Data, Fault, Form, Number, Span, Width, Written};
 
 // ---- a password, where the form has one
 
-#[derive(Drop)]
+#[derive(Clone, Copy)]
 pub enum Lock {
     Value { access: Access, next: usize },
     Bad,
@@ -78,7 +80,7 @@ pub fn form_of(access: Access) -> Form
 
 // ---- a tag
 
-#[derive(Drop)]
+#[derive(Clone, Copy)]
 pub enum Key {
     Value {
         access: Access,
@@ -136,7 +138,7 @@ pub fn write_key(out: &mut [u8], version: u8, kind: u8, access: Access, tag: u64
 
 // ---- memory data
 
-#[derive(Drop)]
+#[derive(Clone, Copy)]
 pub enum Memory {
     Value {
         access: Access,

@@ -1,6 +1,8 @@
 // The message layer at work, for the developer of a gate: every message is written into a lent area, shown, and read back where it stands; then what is refused.
 // Values: document 01, 'Known exchanges', and the tables of clauses 3.2.2 and 3.2.3. On the crates of the message layer, by their contracts; what is shown is
 // compared with the file stdout.
+#![tactic(auto)]
+
 mod shown;
 
 ghost use Rattle.std.specs.Prelude.{◌≡◌};

@@ -78,7 +78,7 @@ fn held(s: &[u8], span: octets::Span) {
 }
 
 // What a list is of.
-#[derive(Drop)]
+#[derive(Clone, Copy)]
 enum Entry {
     Key(Form),
     Memory(Form),

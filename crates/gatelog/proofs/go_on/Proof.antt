@@ -1,4 +1,4 @@
--- `go_on`: what a caller of `log::step` learns (log/proofs/Callers) keeps every place within its buffer and the unit sound; and each case does what the step says.
+-- `go_on`: what a caller of `records::step` learns (records/proofs/Callers) keeps every place within its buffer and the unit sound; and each case does what the step says.
 use mathlib.Core.Path.{◌≡◌, refl, ap, ◌∙◌}
 use Prim.Native.Nat.{◌-◌}
 use native.Mathlib.Omega.{arith}
@@ -6,8 +6,8 @@ use borrow.Author.Rules.{rules}
 use lib.ListN.{length, drop, length-drop}
 use lib.Seq.{length-take-le}
 use Rattle.store.specs.Model.{State, Shows, Sound}
-use Rattle.log.specs.Entry.{word_of, step_out, Stepped}
-use Rattle.log.proofs.Callers.{Learns, step-learns, step-sound}
+use Rattle.records.specs.Entry.{word_of, step_out, Stepped}
+use Rattle.records.proofs.Callers.{Learns, step-learns, step-sound}
 use Rattle.gatelog.specs.Place.{at_hand}
 use Rattle.gatelog.proofs.Turns.{taken, emptied, stopped, both_ways}
 use Rattle.gatelog.proofs.go_on.Statement.{statement}

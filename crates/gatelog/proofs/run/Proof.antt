@@ -4,7 +4,7 @@ use native.Mathlib.Omega.{arith}
 use lib.ListN.{length}
 use Rattle.store.specs.Model.{Sound}
 use Rattle.gatelog.specs.Place.{Within, Roomy}
-use Rattle.log.specs.Output.{first_unit}
+use Rattle.records.specs.Output.{first_unit}
 use Rattle.gatelog.proofs.run.Statement.{statement}
 use Rattle.gatelog.proofs.run.Tie as tie
 
