@@ -1,0 +1,14 @@
+use mathlib.Core.Path.{refl}
+use native.Mathlib.Omega.{arith}
+use Rattle.octets.proofs.Areas.{laid-all, laid-not}
+use Rattle.octets.proofs.copy.Goals as goal
+
+pub returns-then-out-at : goal.returns-then-out-at
+returns-then-out-at c = laid-not c.args.out.now c.args.at c.args.src.now (omega arith)
+
+pub returns-then-out-at-2 : goal.returns-then-out-at-2
+returns-then-out-at-2 c = laid-not c.args.out.now c.args.at c.args.src.now (omega arith)
+
+pub returns : goal.returns
+returns c =
+    laid-all c.args.out.now c.args.at c.args.src.now (omega arith) c.store_all.ensures refl

@@ -1,0 +1,26 @@
+use mathlib.Core.Path.{sym}
+use native.Mathlib.Omega.{arith}
+use Rattle.octets.proofs.Frames.{enclosed-none, enclosed-profile, enclosed-length, enclosed-not, enclosed-is}
+use Rattle.octets.proofs.read_enclosed.Goals as goal
+
+pub returns-then-s-lt4 : goal.returns-then-s-lt4
+returns-then-s-lt4 c = record { says = sym (enclosed-none c.args.s.now (omega arith)); place = tt }
+
+pub returns-then-s-ne0 : goal.returns-then-s-ne0
+returns-then-s-ne0 c =
+    record { says = sym (enclosed-profile c.args.s.now (omega arith) (λ e. omega arith)); place = tt }
+
+pub returns-then-left_at-n : goal.returns-then-left_at-n
+returns-then-left_at-n c =
+    let e = rw c.in-Value.is at c.read_length.ensures in
+    record { says = sym (enclosed-not c.args.s.now (omega arith) (omega arith) c.in-Value.n c.in-Value.next e.says (λ q. omega (arith, c.left_at.ensures))); place = tt }
+
+pub returns-in-Bad : goal.returns-in-Bad
+returns-in-Bad c =
+    let e = rw c.in-Bad.is at c.read_length.ensures in
+    record { says = sym (enclosed-length c.args.s.now (omega arith) (omega arith) _ e.says); place = tt }
+
+pub returns-else-left_at-n : goal.returns-else-left_at-n
+returns-else-left_at-n c =
+    let e = rw c.in-Value.is at c.read_length.ensures in
+    record { says = sym (enclosed-is c.args.s.now (omega arith) (omega arith) c.in-Value.n c.in-Value.next e.says (omega (arith, c.left_at.ensures))); place = e.place.1 }
