@@ -5,8 +5,7 @@ use native.Mathlib.Omega.{arith}
 use borrow.Author.Tests.{lt-ltb, le-ltb, le-leb, lt-leb}
 use native.Mathlib.Decide.{dec_lt}
 use lib.Dec.{ltb}
-use Rattle.admission.proofs.no_room.Statement.{statement}
-use Rattle.admission.proofs.no_room.Tie as tie
+use Rattle.admission.proofs.no_room.Goals as goal
 
 -- what is left is less exactly where the sum exceeds the whole
 less-left : (m u s : ℕ) → u ≤ m → ltb (m - u) s ≡ ltb m (u + s)
@@ -20,18 +19,13 @@ less-left m u s h = go (dec_lt m (u + s))
 more : (m u s : ℕ) → m < u → ltb m (u + s) ≡ true
 more m u s h = lt-ltb m (u + s) (omega arith)
 
-returns : tie.Need-returns
-returns c = let h = c.before.before.args.head in rw (le-leb h.limits.tags h.count c.if1.true)
+pub returns-then-head : goal.returns-then-head
+returns-then-head c = rw (le-leb c.args.head.limits.tags c.args.head.count c.if-head.true)
 
-returns-2 : tie.Need-returns-2
-returns-2 c =
-    let h = c.before.before.before.before.args.head in
-    rw (lt-leb h.limits.tags h.count c.before.before.if1.false, more _ _ _ c.if2.true)
+pub returns-then-head-2 : goal.returns-then-head-2
+returns-then-head-2 c =
+    rw (lt-leb c.args.head.limits.tags c.args.head.count c.if-head.false, more _ _ _ c.if-head-2.true)
 
-returns-3 : tie.Need-returns-3
-returns-3 c =
-    let h = c.before.before.before.before.before.args.head in
-    rw (lt-leb h.limits.tags h.count c.before.before.before.if1.false) (less-left _ _ _ c.before.if2.false)
-
-pub no-room-spec : {M : Type 1} → statement M
-no-room-spec = tie.close (tie.spec returns returns-2 returns-3)
+pub returns : goal.returns
+returns c =
+    rw (lt-leb c.args.head.limits.tags c.args.head.count c.if-head.false) (less-left _ _ _ c.if-head-2.false)
