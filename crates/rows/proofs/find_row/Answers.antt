@@ -1,16 +1,16 @@
 use mathlib.Core.Path.{◌≡◌, sym, ◌∙◌}
-use mathlib.Core.Logic.{⊎_elim}
 use Prim.Native.Nat.{◌-◌}
 use native.Mathlib.Omega.{arith}
 use borrow.Author.Tests.{le-ltb, lt-ltb}
 use Rattle.rows.specs.Row.{rows_in}
 use Rattle.rows.proofs.Rows.{rows_fit, scan-hit, scan-miss, scan-none}
 use Rattle.rows.proofs.find_row.Goals as goal
+use Rattle.rows.proofs.find_row.Goals.{then-count-rows, else-count-rows}
 
 pub loop-i-init : goal.loop-i-init
 loop-i-init c =
     let e : c.if-count-rows.n ≡ rows_in c.args.table.now c.args.count =
-    ⊎_elim (λ z. z.1 ∙ rw (lt-ltb _ _ z.0.taken)) (λ z. z.1 ∙ rw (le-ltb _ _ z.0.left)) c.if-count-rows.branch in
+    elim c.if-count-rows.branch [ then-count-rows w ↦ w.n-is ∙ rw (lt-ltb _ _ w.if-count-rows.true) | else-count-rows w ↦ w.n-is ∙ rw (le-ltb _ _ w.if-count-rows.false) ] in
     let d : c.if-count-rows.n - 0 ≡ rows_in c.args.table.now c.args.count = omega arith in
     (omega arith, rw e (rows_fit c.args.table.now c.args.count), rw (c.bare_tag-id.ensures, d))
 

@@ -11,5 +11,5 @@ returns-then-table-count c = sym (removed-short _ _ _ (omega arith) (omega arith
 
 pub returns : goal.returns
 returns c =
-    removed-steps ??c.before.before.before.before.before.before.before.before.before.before.before.before.before.before.before.before.before.before.args.table.now _ _ _ _ _ _ _ (omega arith) (omega arith) c.get_slot-slot.ensures c.move_words.ensures c.empty.ensures
+    removed-steps c.args.table.now _ _ _ _ _ _ _ (omega arith) (omega arith) c.get_slot-slot.ensures c.move_words.ensures c.empty.ensures
     c.put_slot.ensures c.lower_places.ensures
