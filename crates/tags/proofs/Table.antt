@@ -1,5 +1,4 @@
 -- The password of an entry at its boundaries, by computation. Document 01, 'Tags': "Any 8 octets may be a password, all zeros too."
-use Prim.Native.Nat.{ℕ}
 use mathlib.Core.Path.{◌≡◌, refl}
 use mathlib.Core.Bool.{Bool, true, false}
 use mathlib.Core.List.{List, [], ◌∷◌, map}

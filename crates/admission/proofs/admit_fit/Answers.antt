@@ -1,5 +1,4 @@
-use mathlib.Core.Path.{sym, ap, ◌∙◌}
-use mathlib.Core.Bool.{not}
+use mathlib.Core.Path.{sym, ◌∙◌}
 use borrow.Author.Tests.{lt-ltb, le-ltb}
 use Rattle.admission.proofs.Admitted
 use Rattle.admission.proofs.admit_fit.Goals as goal

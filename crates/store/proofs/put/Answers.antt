@@ -1,0 +1,20 @@
+use mathlib.Core.Path.{◌≡◌, ap, ◌∙◌}
+use mathlib.Core.List.{List}
+use Prim.Native.Nat.{ℕ, ◌+◌, ◌-◌}
+use native.Mathlib.Omega.{arith}
+use lib.ListN.{length, replicate}
+use lib.Seq.{sets}
+use Rattle.octets.proofs.Areas.{laid-holds}
+use Rattle.store.specs.Raw.{overwritten}
+use Rattle.store.proofs.put.Goals as goal
+
+pub returns : goal.returns
+unfolding overwritten
+returns c = let xs : List ℕ = c.args.src.now in
+    let n : ℕ = c.args.at + length xs in
+    let k : c.args.at + c.args.held - n ≡ c.args.held - length xs = omega arith in (
+      c.put_held.ensures,
+      c.clear.ensures
+          ∙ ap (λ (d : List ℕ). sets d n (replicate (c.args.at + c.args.held - n) 0)) (laid-holds c.args.pool.now c.args.at xs c.requires.0 c.copy.ensures)
+          ∙ ap (λ (j : ℕ). sets (sets c.args.pool.now c.args.at xs) n (replicate j 0)) k,
+    )
