@@ -1,5 +1,4 @@
 use Rattle.std.proofs.Common.{rules}
-use Prim.Native.Nat.{◌-◌}
 use Rattle.lists.proofs.access_at.Goals as goal
 
 pub offset_bounds-passwords-i : goal.offset_bounds-passwords-i

@@ -1,4 +1,3 @@
-use Prim.Native.Nat.{◌-◌}
 use Rattle.lists.specs.Handed.{agrees}
 use Rattle.lists.proofs.agree.Goals as goal
 

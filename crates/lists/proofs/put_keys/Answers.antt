@@ -1,4 +1,3 @@
-use Prim.Native.Nat.{◌-◌}
 use mathlib.Core.Path.{◌≡◌}
 use native.Mathlib.Omega.{arith}
 use lib.ListN.{length}
@@ -8,7 +7,7 @@ use Rattle.lists.proofs.put_keys.Goals as goal
 
 pub access_at-requires : goal.access_at-requires
 access_at-requires c = λ e.
-        let q = agrees_at c.args.form (length c.args.tags.now) (length c.args.passwords.now) c.requires.0 e in
+    let q = agrees_at c.args.form (length c.args.tags.now) (length c.args.passwords.now) c.requires.0 e in
     omega arith
 
 pub loop-i-preserved : goal.loop-i-preserved

@@ -1,4 +1,4 @@
-use Prim.Native.Nat.{◌+◌, ◌-◌, ◌*◌, ◌≤◌}
+use Prim.Native.Nat.{◌+◌, ◌*◌, ◌≤◌}
 use native.Mathlib.Omega.{arith}
 use native.Mathlib.Nat.{mul-le-mul_left}
 use Rattle.tags.specs.Entry.{key}
@@ -8,7 +8,7 @@ use Rattle.lists.proofs.read_keys.Goals as goal
 pub overflow_mul-size : goal.overflow_mul-size
 overflow_mul-size c =
     let e = rw c.in-Value.is at c.read_length.ensures in
-        let l : c.in-Value.n * (8 + c.lock_size.result) ≤ c.in-Value.n * 16 = mul-le-mul_left c.in-Value.n (omega (arith, c.lock_size.ensures)) in
+    let l : c.in-Value.n * (8 + c.lock_size.result) ≤ c.in-Value.n * 16 = mul-le-mul_left c.in-Value.n (omega (arith, c.lock_size.ensures)) in
     record { fits = omega (arith, e.place) }
 
 pub overflow_sub-s : goal.overflow_sub-s

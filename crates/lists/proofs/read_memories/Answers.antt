@@ -1,4 +1,3 @@
-use Prim.Native.Nat.{◌-◌}
 use Rattle.tags.specs.Entry.{memory}
 use Rattle.lists.proofs.Walks.{list-walked, list-bad}
 use Rattle.lists.proofs.read_memories.Goals as goal
