@@ -3,7 +3,6 @@ use mathlib.Core.Path.{◌≡◌, sym, ap, ◌∙◌}
 use native.Mathlib.Omega.{arith}
 use lib.ListN.{length}
 use Rattle.octets.specs.Length.{encode_length}
-use Rattle.octets.specs.declared.Access.{Access}
 use Rattle.octets.specs.declared.Form.{Form}
 use Rattle.octets.proofs.Areas.{open-room, sent-unfit, sent-refused, sent-short}
 use Rattle.octets.proofs.Sends.{sent-long}

@@ -59,7 +59,7 @@ put_resources-requires c =
     let r : List Resource = resources_of t c.args.modes.now c.args.held.now c.args.sizes.now in
     let o = open-room _ _ _ _ _ _ (rw c.in-Done.is at c.open_message.ensures) in
     let k = counted c.args.x r (length-listed (resource_at t c.args.modes.now c.args.held.now c.args.sizes.now) (length t)) (omega (arith, o)) c.put_room-counted.ensures
-      (rw (length-octets-are (length t) (omega arith)) at c.write_length-first.ensures) in
+    (rw (length-octets-are (length t) (omega arith)) at c.write_length-first.ensures) in
     (c.if-modes-n.false, c.if-held-n.false, c.if-sizes-n.false, k.1)
 
 pub returns-in-Refused : goal.returns-in-Refused
@@ -77,7 +77,7 @@ returns-in-NoRoom c =
     let m = sym c.are_modes.ensures ∙ c.if-not-are_modes.false in
     let r = room_fits c.args.x (omega arith) (omega arith) (omega arith) (omega arith) (omega arith) (omega arith) in
     let f = resources-fit c.args.tags.now c.args.modes.now c.args.held.now c.args.sizes.now c.args.x r (omega arith) c.if-modes-n.false m
-      (λ i. (c.type_inv.tags i).fits) (λ i. (c.type_inv.modes i).fits) (λ i. (c.type_inv.held i).fits) (λ i. (c.type_inv.sizes i).fits) in
+    (λ i. (c.type_inv.tags i).fits) (λ i. (c.type_inv.modes i).fits) (λ i. (c.type_inv.held i).fits) (λ i. (c.type_inv.sizes i).fits) in
     described-is _ _ _ b (sent-short _ _ _ _ _ _ _ (rw l (omega arith)) f (rw c.in-NoRoom.is at c.open_message.ensures))
 
 pub returns-in-Done : goal.returns-in-Done
@@ -88,13 +88,13 @@ returns-in-Done c =
     let m = sym c.are_modes.ensures ∙ c.if-not-are_modes.false in
     let r = room_fits c.args.x (omega arith) (omega arith) (omega arith) (omega arith) (omega arith) (omega arith) in
     let f = resources-fit c.args.tags.now c.args.modes.now c.args.held.now c.args.sizes.now c.args.x r (omega arith) c.if-modes-n.false m
-      (λ i. (c.type_inv.tags i).fits) (λ i. (c.type_inv.modes i).fits) (λ i. (c.type_inv.held i).fits) (λ i. (c.type_inv.sizes i).fits) in
+    (λ i. (c.type_inv.tags i).fits) (λ i. (c.type_inv.modes i).fits) (λ i. (c.type_inv.held i).fits) (λ i. (c.type_inv.sizes i).fits) in
     let t = c.args.tags.now in
     let a : List Resource = resources_of t c.args.modes.now c.args.held.now c.args.sizes.now in
     let d = rw c.in-Done.is at c.open_message.ensures in
     let o = open-room _ _ _ _ _ _ d in
     let k = counted c.args.x a (length-listed (resource_at t c.args.modes.now c.args.held.now c.args.sizes.now) (length t)) (omega (arith, o)) c.put_room-counted.ensures
-      (rw (length-octets-are (length t) (omega arith)) at c.write_length-first.ensures) in
+    (rw (length-octets-are (length t) (omega arith)) at c.write_length-first.ensures) in
     let v = wrote_then {w = put_all resource a} k.0 c.put_resources.ensures in
     let w = wrote_then {w = (list_of resource).put a} c.put_room-counted.ensures v in
     described-is _ _ _ b (sent-wrote _ _ _ _ _ (rw l (omega arith)) f d w)
