@@ -8,7 +8,6 @@ use lib.ListN.{length, get_or, length-append}
 use lib.Dec.{ltb, leb}
 use borrow.Author.Tests.{lt-ltb, le-leb, lt-leb, leb-false, eq-eqb, ne_eqb}
 use Rattle.octets.specs.Length.{encode_length}
-use Rattle.octets.specs.Number.{octets}
 use Rattle.octets.specs.Layout.{Layout, numeral, seq, put_all}
 use Rattle.octets.specs.declared.Form.{Form}
 use Rattle.octets.proofs.Places.{both}

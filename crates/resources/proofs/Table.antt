@@ -1,10 +1,8 @@
 -- Mode codes, and slices side by side with what they tell of tags, on both sides of every boundary: tables, each proved by computation.
-use Prim.Native.Nat.{ℕ}
 use mathlib.Core.Path.{◌≡◌, refl}
 use mathlib.Core.Bool.{Bool, true, false}
 use mathlib.Core.List.{List, [], ◌∷◌, map}
 use Rattle.resources.specs.Resource.{mode_known, every_mode, alongside, resources_of}
-use Rattle.resources.specs.declared.Resource.{Resource}
 
 abbrev tests : List (Bool × Bool)
 tests =

@@ -1,10 +1,7 @@
-use Prim.Native.Nat.{◌-◌}
 use mathlib.Core.Path.{◌≡◌, refl, sym, ◌∙◌}
-use mathlib.Core.Bool.{true}
 use native.Mathlib.Omega.{arith}
 use native.Mathlib.Numerals.{add-one}
 use lib.ListN.{length, get_or}
-use borrow.Author.Tests.{not-true, not-false}
 use Rattle.octets.proofs.Places.{both-are}
 use Rattle.octets.proofs.Lists.{every-not}
 use Rattle.resources.specs.Resource.{mode_known, every_mode}
@@ -16,10 +13,10 @@ loop-i-init c = (omega arith, refl)
 pub returns-then-not-is_mode : goal.returns-then-not-is_mode
 unfolding every_mode
 returns-then-not-is_mode c =
-    sym (every-not (λ k. mode_known (get_or c.args.modes.now k 0)) (length c.args.modes.now) c.loop-i.i (omega arith) (sym c.is_mode.ensures ∙ not-true _ c.if-not-is_mode.true))
+    sym (every-not (λ k. mode_known (get_or c.args.modes.now k 0)) (length c.args.modes.now) c.loop-i.i (omega arith) (sym c.is_mode.ensures ∙ c.if-not-is_mode.true))
 
 pub loop-i-preserved : goal.loop-i-preserved
-loop-i-preserved c = (omega arith, rw (add-one c.loop-i.i) (both-are _ _ c.loop-i.invariant.1 (sym c.is_mode.ensures ∙ not-false _ c.if-not-is_mode.false)))
+loop-i-preserved c = (omega arith, rw (add-one c.loop-i.i) (both-are _ _ c.loop-i.invariant.1 (sym c.is_mode.ensures ∙ c.if-not-is_mode.false)))
 
 pub returns : goal.returns
 unfolding every_mode

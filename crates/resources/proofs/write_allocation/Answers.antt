@@ -1,9 +1,8 @@
-use Prim.Native.Nat.{◌+◌}
+use Prim.Native.Nat.{ℕ, ◌+◌}
 use mathlib.Core.Path.{◌≡◌, sym, ap, ◌∙◌}
-use mathlib.Core.Bool.{true}
 use native.Mathlib.Omega.{arith}
 use lib.ListN.{length}
-use borrow.Author.Tests.{not-true, not-false}
+use Rattle.octets.specs.Length.{encode_length}
 use Rattle.octets.specs.declared.Form.{Form}
 use Rattle.octets.proofs.Areas.{open-room, sent-unfit, sent-refused, sent-short}
 use Rattle.octets.proofs.Sends.{sent-long}
@@ -13,42 +12,44 @@ use Rattle.resources.proofs.Resources.{length-allocation, allocation-fits, alloc
 use Rattle.resources.proofs.Fields.{sent-wrote}
 use Rattle.resources.proofs.write_allocation.Goals as goal
 
-abbrev grant : tie.Start → Grant
-grant s = let a = s.args in grant_of (a.tag, (a.mode, (a.size, (a.access, a.initial.now))))
-
-abbrev form : tie.Start → Form
-form s = form_of s.args.access
+-- the size of the body, as the code sums it
+body-size : (g : Grant) {w f : Form} {s l : ℕ} → f ≡ w → s ≡ lock_size f → l ≡ length (encode_length (length g.initial)) → 13 + s + l + length g.initial ≡ length ((allocation w).put g)
+body-size g {w} {f} e s l = rw (length-allocation w g) (omega (arith, s ∙ ap lock_size e))
 
 pub returns-then-not-is_mode : goal.returns-then-not-is_mode
-returns-then-not-is_mode c = sent-unfit _ _ _ _ _ (allocation-unfit (form ??c.before.before.before.before) (grant ??c.before.before.before.before) (sym c.is_mode.ensures ∙ not-true _ c.if-not-is_mode.true))
+returns-then-not-is_mode c =
+    let g : Grant = grant_of (c.args.tag, (c.args.mode, (c.args.size, (c.args.access, c.args.initial.now)))) in
+    sent-unfit _ _ _ _ _ (allocation-unfit (form_of c.args.access) g (sym c.is_mode.ensures ∙ c.if-not-is_mode.true))
 
 pub returns-then-n-gt2048 : goal.returns-then-n-gt2048
-returns-then-n-gt2048 c = sent-long _ _ _ _ _ (omega (arith, length-allocation (form ??c.before.before.before.before.before) (grant ??c.before.before.before.before.before)))
+returns-then-n-gt2048 c =
+    let g : Grant = grant_of (c.args.tag, (c.args.mode, (c.args.size, (c.args.access, c.args.initial.now)))) in
+    sent-long _ _ _ _ _ (omega (arith, length-allocation (form_of c.args.access) g))
 
 pub put_allocation-requires : goal.put_allocation-requires
-put_allocation-requires c = (omega arith, omega (arith, size ??c.before.before.before.before.before.before.before.before, open-room _ _ _ _ _ _ (rw c.in-Done.is at c.open_message.ensures)))
+put_allocation-requires c =
+    let g : Grant = grant_of (c.args.tag, (c.args.mode, (c.args.size, (c.args.access, c.args.initial.now)))) in
+    let e = body-size g c.form_of.ensures.0 c.lock_size.ensures.0 c.length_size.ensures.0 in
+    (omega arith, omega (arith, e, open-room _ _ _ _ _ _ (rw c.in-Done.is at c.open_message.ensures)))
 
 pub returns-in-Refused : goal.returns-in-Refused
-returns-in-Refused c = sent-refused _ _ _ _ _ _ _ (size ??c.before.before.before.before.before.before) (rw c.in-Refused.is at c.open_message.ensures)
+returns-in-Refused c =
+    let g : Grant = grant_of (c.args.tag, (c.args.mode, (c.args.size, (c.args.access, c.args.initial.now)))) in
+    let e = body-size g c.form_of.ensures.0 c.lock_size.ensures.0 c.length_size.ensures.0 in
+    sent-refused _ _ _ _ _ _ _ e (rw c.in-Refused.is at c.open_message.ensures)
 
 pub returns-in-NoRoom : goal.returns-in-NoRoom
-returns-in-NoRoom c = sent-short _ _ _ _ _ _ _ (size ??c.before.before.before.before.before.before) (fits ??c.before.before.before.before.before.before) (rw c.in-NoRoom.is at c.open_message.ensures)
+returns-in-NoRoom c =
+    let g : Grant = grant_of (c.args.tag, (c.args.mode, (c.args.size, (c.args.access, c.args.initial.now)))) in
+    let e = body-size g c.form_of.ensures.0 c.lock_size.ensures.0 c.length_size.ensures.0 in
+    let l = rw c.form_of.ensures.0 at c.form_of.ensures.1 in
+    let f = allocation-fits (form_of c.args.access) g c.ranges.tag.fits c.ranges.mode.fits (sym c.is_mode.ensures ∙ c.if-not-is_mode.false) c.ranges.size.fits l (omega arith) in
+    sent-short _ _ _ _ _ _ _ e f (rw c.in-NoRoom.is at c.open_message.ensures)
 
 pub returns-in-Done : goal.returns-in-Done
-returns-in-Done c = sent-wrote _ _ _ _ _ (size ??c.before.before.before.before.before.before.before.before.before.before.before) (fits ??c.before.before.before.before.before.before.before.before.before.before.before) (rw c.in-Done.is at c.open_message.ensures) c.put_allocation.ensures
-
--- what is known when the body's size is
-module _ (c : tie.After-length-size) where
-  abbrev start : tie.Start
-  start = c.before.before.before.before.before.before.before.before
-
-  size : 13 + c.before.lock-size.result + c.length-size.result + length (grant start).initial ≡ length ((allocation (form start)).put (grant start))
-  size =
-      let l : c.before.lock-size.result ≡ lock_size (form start) = c.before.lock-size.ensures.0 ∙ ap lock_size c.before.before.form_of.ensures.0 in
-      rw (length-allocation (form start) (grant start)) (omega (arith, c.length-size.ensures))
-
-  fits : (allocation (form start)).fits (grant start) ≡ true
-  fits =
-      let f = start.fits in
-      let k = sym c.before.before.before.before.before.is-mode.ensures ∙ not-false _ c.before.before.before.before.if1.false in
-      allocation-fits (form start) (grant start) f.tag.fits f.mode.fits k f.size.fits (rw c.before.before.form_of.ensures.0 at c.before.before.form_of.ensures.1) (omega arith)
+returns-in-Done c =
+    let g : Grant = grant_of (c.args.tag, (c.args.mode, (c.args.size, (c.args.access, c.args.initial.now)))) in
+    let e = body-size g c.form_of.ensures.0 c.lock_size.ensures.0 c.length_size.ensures.0 in
+    let l = rw c.form_of.ensures.0 at c.form_of.ensures.1 in
+    let f = allocation-fits (form_of c.args.access) g c.ranges.tag.fits c.ranges.mode.fits (sym c.is_mode.ensures ∙ c.if-not-is_mode.false) c.ranges.size.fits l (omega arith) in
+    sent-wrote _ _ _ _ _ e f (rw c.in-Done.is at c.open_message.ensures) c.put_allocation.ensures
