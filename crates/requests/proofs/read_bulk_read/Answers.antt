@@ -1,0 +1,19 @@
+use mathlib.Core.Path.{refl}
+use Rattle.requests.specs.Command.{bulk_read}
+use Rattle.requests.proofs.Readings.{decoded-bad, decoded-more, decoded-good, list-whole}
+use Rattle.requests.proofs.read_bulk_read.Goals as goal
+
+pub returns-then-next-s : goal.returns-then-next-s
+returns-then-next-s c =
+    let e = rw c.in-Value.is at c.read_keys.ensures in
+    decoded-more bulk_read _ e.says c.if-next-s.true
+
+pub returns-in-Bad : goal.returns-in-Bad
+returns-in-Bad c =
+    let e = rw c.in-Bad.is at c.read_keys.ensures in
+    decoded-bad bulk_read e.says
+
+pub returns-else-next-s : goal.returns-else-next-s
+returns-else-next-s c =
+    let e = rw c.in-Value.is at c.read_keys.ensures in
+    decoded-good bulk_read _ e.says c.if-next-s.false refl refl (list-whole e c.if-next-s.false)
