@@ -1,7 +1,7 @@
 -- The promise of the reader of answers leaves one answer: any two that it allows are equal. It is `Understood`: what an answer says of the octets, and that its span or
 -- list ends with them, tell it from every other answer. The promises of the writers are `Does`: does-unique of octets speaks of them.
 use mathlib.Core.Bool.{cond}
-use Prim.Native.Nat.{ℕ, ◌+◌, ◌-◌, ◌<◌}
+use Prim.Native.Nat.{ℕ, ◌+◌, ◌<◌}
 use mathlib.Core.Path.{◌≡◌, refl, sym, ap, ◌∙◌}
 use mathlib.Core.List.{List}
 use native.Mathlib.Omega.{arith}

@@ -1,0 +1,13 @@
+use Rattle.octets.specs.Frame.{sent, encode, writable}
+use Rattle.requests.specs.Command.{known}
+use Rattle.answers.specs.Answer.{answer_body}
+use Rattle.lists.specs.Handed.{keys_sent, agrees}
+use Rattle.answers.proofs.write_bulk_write.Goals as goal
+
+pub returns-in-Plain : goal.returns-in-Plain
+unfolding sent encode writable answer_body known keys_sent agrees
+returns-in-Plain c = rw c.in-Plain.is c.write_keys.ensures
+
+pub returns-in-Password : goal.returns-in-Password
+unfolding sent encode writable answer_body known keys_sent agrees
+returns-in-Password c = rw c.in-Password.is c.write_keys-in-Password.ensures
