@@ -8,7 +8,7 @@ use native.Mathlib.Omega.{arith}
 use lib.ListN.{length}
 use lib.Dec.{eqb, ltb}
 use borrow.Author.Tests.{eq-eqb, lt-ltb, ltb-true}
-use Rattle.octets.specs.Reading.{Read, bad, ok, Told, message, told}
+use Rattle.octets.specs.Reading.{Read, bad, ok, message, told}
 use Rattle.octets.specs.Frame.{Message}
 use Rattle.octets.specs.declared.Access.{Access}
 use Rattle.octets.specs.declared.Form.{Form}
