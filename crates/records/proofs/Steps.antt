@@ -22,8 +22,8 @@ use Rattle.responder.specs.declared.Sent.TheVariants as s
 use Rattle.records.specs.Text.{bad_words, answer_line}
 use Rattle.records.specs.Record.{Front, whole, front_after}
 use Rattle.records.specs.Output.{answer_to, end_lines, stop_lines}
-use Rattle.records.specs.Turn.{more, turned_by, turn}
-use Rattle.records.specs.Entry.{word_of, used-written, closed, out_of, step_out, Stepped, Closes, closing, length_of}
+use Rattle.records.specs.Turn.{turned_by, turn}
+use Rattle.records.specs.Entry.{used-written, closed, out_of, step_out, Stepped, Closes, closing, length_of}
 use Rattle.records.specs.declared.Turn.{Turn}
 use Rattle.records.specs.declared.Turn.TheVariants as t
 use Rattle.records.specs.declared.Outcome.{Outcome}

@@ -1,5 +1,5 @@
 -- The whole output of the gate log program for a whole input. Document 01, 'The gate log program'.
-use Rattle.std.specs.Prelude.{ℕ, zero, suc, true, List, [], ◌++◌, length}
+use Rattle.std.specs.Prelude.{ℕ, zero, suc, true, List, ◌++◌, length}
 use Rattle.octets.specs.declared.Port.{Port}
 use Rattle.store.specs.Model.{State, new_unit, first_kind}
 use Rattle.responder.specs.Respond.{respond}
