@@ -20,13 +20,13 @@ use Rattle.requests.specs.Command.{form_number}
 use Rattle.answers.specs.View.{given_kind}
 use Rattle.answers.specs.declared.Given.{Given}
 use Rattle.answers.specs.declared.Given.TheVariants as g
-use Rattle.capi.specs.Result.{result}
+use Rattle.capi.specs.Result.{number_of}
 use Rattle.capi.specs.Gate.{Gives, filled, given_words, short}
 use Rattle.capi.proofs.Words.{front}
 
 -- a writer's number is that of what it wrote
-pub gives : {o : Outcome × List ℕ} {x : Written} {r : ℤ} {new : List ℕ} → Does o x new → r ≡ result (outcome x) → Gives o r new
-gives d e = record { says = e ∙ ap result d.says; area = d.area }
+pub gives : {o : Outcome × List ℕ} {x : Written} {r : ℤ} {new : List ℕ} → Does o x new → r ≡ number_of (outcome x) → Gives o r new
+gives d e = record { says = e ∙ ap number_of d.says; area = d.area }
 
 -- a number that is handed on
 pub regives : {o : Outcome × List ℕ} {z r : ℤ} {new : List ℕ} → Gives o z new → r ≡ z → Gives o r new
@@ -35,21 +35,21 @@ regives d e = record { says = e ∙ d.says; area = d.area }
 -- ---- words that fill a lent slice
 
 module _ (n : ℕ) (words old : List ℕ) {r : ℤ} where
-  pub filled-short : length old < length words → r ≡ result (refused 300) → Gives (filled n words old) r old
+  pub filled-short : length old < length words → r ≡ number_of (refused 300) → Gives (filled n words old) r old
   unfolding filled
   filled-short h e = rw (lt-ltb (length old) (length words) h) (record { says = e; area = refl })
 
-  pub filled-done : (new : List ℕ) → length words ≤ length old → r ≡ result (done n) → new ≡ sets old 0 words → Gives (filled n words old) r new
+  pub filled-done : (new : List ℕ) → length words ≤ length old → r ≡ number_of (done n) → new ≡ sets old 0 words → Gives (filled n words old) r new
   unfolding filled
   filled-done new h e q = rw (le-ltb (length old) (length words) h) (record { says = e; area = q ∙ front old words h })
 
 -- ---- octets that are over 2,048, or no entry
 
 module _ (s old : List ℕ) (o : Outcome × List ℕ) {r : ℤ} where
-  pub short-bad : o ≡ (refused 16, old) → r ≡ result (refused 16) → Gives (short s o old) r old
+  pub short-bad : o ≡ (refused 16, old) → r ≡ number_of (refused 16) → Gives (short s o old) r old
   short-bad e q = rw (e, pick_same {A = Outcome × List ℕ} (ltb 2048 (length s)) (refused 16, old)) (record { says = q; area = refl })
 
-  pub short-long : 2048 < length s → r ≡ result (refused 16) → Gives (short s o old) r old
+  pub short-long : 2048 < length s → r ≡ number_of (refused 16) → Gives (short s o old) r old
   short-long h q = rw (lt-ltb 2048 (length s) h) (record { says = q; area = refl })
 
   pub short-fine : {new : List ℕ} → length s ≤ 2048 → Gives o r new → Gives (short s o old) r new

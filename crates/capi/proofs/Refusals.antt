@@ -32,14 +32,14 @@ use Rattle.store.specs.Steps.{verdict, acted, asked, more, fit_step}
 use Rattle.responder.specs.Entry.{word_for, area_for}
 use Rattle.responder.specs.Respond.{Result, silent, replied, respond}
 use Rattle.responder.proofs.Refusals.{silence-keeps}
-use Rattle.capi.specs.Result.{result, judged, worded}
+use Rattle.capi.specs.Result.{number_of, judged, worded}
 use Rattle.capi.specs.Slices.{Slices, Holds, Kept}
 use Rattle.capi.specs.Calls.{port_of, start_line, port_line, mode_line, Starts, Responds, Does, Fits}
 use Rattle.capi.specs.Gate.{Gives, filled, given_words, roomless, reply_filled, short, key_filled, memory_filled, resource_filled, ReadsAnswer, ReadsTag, ReadsMemory, ReadsResource}
 use Rattle.capi.proofs.Unique.{line-case, none_lent, holds-unique}
 
 -- what went well is no negative number
-well-not : {n k : ℕ} {r : ℤ} → r ≡ result (done n) → r ≡ negsuc k → ⊥
+well-not : {n k : ℕ} {r : ℤ} → r ≡ number_of (done n) → r ≡ negsuc k → ⊥
 well-not a b = let z : ◌≡◌ {A = ℕ} 0 1 = cc in omega arith
 
 -- ---- the unit
@@ -49,7 +49,7 @@ module _ (version : ℕ) (allocation passwords : Bool) (old : Slices) (r : ℤ) 
   start-refused a k q = line-case (new ≡ old) (start_line version old) (λ n e. (a.barred n e).1) (λ e. absurd (well-not (a.made e).0 q))
 
 module _ (port : ℕ) (s : List ℕ) (old : Slices) (kept : Kept old.head old.table old.memory) (area : List ℕ) (r : ℤ) (new : Slices) (area' : List ℕ) where
-  silent-leaves : (u : State) → Holds u old → (o : Result) → (respond u (port_of port) s (length area)).result ≡ o → r ≡ result (worded (word_for o))
+  silent-leaves : (u : State) → Holds u old → (o : Result) → (respond u (port_of port) s (length area)).result ≡ o → r ≡ number_of (worded (word_for o))
       → area' ≡ area_for o area → Holds (respond u (port_of port) s (length area)).unit new → (k : ℕ) → r ≡ negsuc k → (new ≡ old) × (area' ≡ area)
   silent-leaves u h (replied x) e w g l k q = absurd (well-not w q)
   silent-leaves u h (silent n) e w g l k q = (holds-unique u new old (rw (silence-keeps u (port_of port) s (length area) n e) at l) h, g)
@@ -63,7 +63,7 @@ module _ (port : ℕ) (s : List ℕ) (old : Slices) (kept : Kept old.head old.ta
       silent-leaves u.unit u.holds _ refl d.says d.written d.left k q)
 
 -- a step that is denied leaves the unit
-acted-leaves : (u : State) (v : Verdict) (m : List Tag) (old new : Slices) (r : ℤ) → Holds u old → r ≡ result (judged (acted u v m).answer) → Holds (acted u v m).unit new
+acted-leaves : (u : State) (v : Verdict) (m : List Tag) (old new : Slices) (r : ℤ) → Holds u old → r ≡ number_of (judged (acted u v m).answer) → Holds (acted u v m).unit new
     → (k : ℕ) → r ≡ negsuc k → new ≡ old
 acted-leaves u Allowed m old new r h w l k q = absurd (well-not w q)
 acted-leaves u (Denied n) m old new r h w l k q = holds-unique u new old l h

@@ -24,7 +24,7 @@ use Rattle.admission.specs.declared.Verdict.TheVariants.{Allowed, Denied}
 use Rattle.store.specs.Model.{first_kind}
 use Rattle.responder.specs.Entry.{length-is, refusal}
 use Rattle.responder.specs.Respond.{Line, number, none}
-use Rattle.capi.specs.Result.{result, judged, worded}
+use Rattle.capi.specs.Result.{number_of, judged, worded}
 use Rattle.capi.specs.Slices.{Slices, slices, head_words}
 use Rattle.capi.specs.Calls.{port_of, access_of, form_for, start_line, port_line, mode_line}
 use Rattle.capi.specs.Gate.{filled, reply_filled, short, key_filled, memory_filled, resource_filled}
@@ -87,14 +87,14 @@ forms-hold = refl
 
 abbrev results : List (ℤ × ℤ)
 results =
-    (result (done 0), pos 0)
-    ∷ (result (done 2048), pos 2048)
-    ∷ (result (refused 16), negsuc 15)
-    ∷ (result (refused 300), negsuc 299)
-    ∷ (result (judged Allowed), pos 0)
-    ∷ (result (judged (Denied 6)), negsuc 5)
-    ∷ (result (worded (length-is 5)), pos 5)
-    ∷ (result (worded (refusal 300)), negsuc 299)
+    (number_of (done 0), pos 0)
+    ∷ (number_of (done 2048), pos 2048)
+    ∷ (number_of (refused 16), negsuc 15)
+    ∷ (number_of (refused 300), negsuc 299)
+    ∷ (number_of (judged Allowed), pos 0)
+    ∷ (number_of (judged (Denied 6)), negsuc 5)
+    ∷ (number_of (worded (length-is 5)), pos 5)
+    ∷ (number_of (worded (refusal 300)), negsuc 299)
     ∷ []
 
 pub results-hold : is results ≡ should results

@@ -19,7 +19,7 @@ use Rattle.store.specs.Model.{State, new_unit, first_kind}
 use Rattle.store.specs.Steps.{Step}
 use Rattle.store.proofs.Unique.{shows-unique}
 use Rattle.responder.specs.Respond.{Line, number, none}
-use Rattle.capi.specs.Result.{result}
+use Rattle.capi.specs.Result.{number_of}
 use Rattle.capi.specs.Slices.{Slices, slices, lent, Holds, Kept}
 use Rattle.capi.specs.Calls.{barred_by, start_line, port_line, mode_line, Starts, Responds, Fits}
 use Rattle.capi.specs.Gate.{Gives, reply_filled, short, key_filled, memory_filled, resource_filled, ReadsAnswer, ReadsTag, ReadsMemory, ReadsResource}
@@ -117,7 +117,7 @@ gives-unique a b = (a.says ∙ sym b.says, a.area ∙ sym b.area)
 
 -- the same for a reader, whose promise names an answer x or y of the layer below
 same_gives : {A : Type 0} (f : A → Outcome × List ℕ) {x y : A} {r r' : ℤ} {new new' : List ℕ} → x ≡ y → Gives (f x) r new → Gives (f y) r' new' → (r ≡ r') × (new ≡ new')
-same_gives f e a b = (a.says ∙ ap (λ z. result (f z).0) e ∙ sym b.says, a.area ∙ ap (λ z. (f z).1) e ∙ sym b.area)
+same_gives f e a b = (a.says ∙ ap (λ z. number_of (f z).0) e ∙ sym b.says, a.area ∙ ap (λ z. (f z).1) e ∙ sym b.area)
 
 module _ (s old : List ℕ) {r r' : ℤ} {new new' : List ℕ} where
   -- taxeedhuul_read_answer

@@ -30,7 +30,7 @@ use Rattle.responder.specs.Entry.{word_of, Responded}
 use Rattle.responder.specs.Respond.{number, none, respond}
 use Rattle.responder.specs.declared.Reply.{Reply}
 use Rattle.responder.proofs.Kept.{respond-keeps}
-use Rattle.capi.specs.Result.{result, judged, worded}
+use Rattle.capi.specs.Result.{number_of, judged, worded}
 use Rattle.capi.specs.Slices.{Slices, slices, lent, head_words, Holds}
 use Rattle.capi.specs.Calls.{port_of, barred_by, start_line, port_line, mode_line, Starts, Answers, Responds, Does, Fits}
 
@@ -84,22 +84,22 @@ begun-made h v a p e = go (ltb 15 v) e
     go false q = (refl, cc)
 
 module _ (v : ℕ) (a p : Bool) (old : Slices) (r : ℤ) where
-  starts-barred : (n : ℕ) → start_line v old ≡ number n → r ≡ result (refused n) → Starts v a p old r old
+  starts-barred : (n : ℕ) → start_line v old ≡ number n → r ≡ number_of (refused n) → Starts v a p old r old
   starts-barred n l e = record {
-    barred = λ m q. (e ∙ ap (λ (k : ℕ). result (refused k)) (same_number (sym l ∙ q)), refl);
+    barred = λ m q. (e ∙ ap (λ (k : ℕ). number_of (refused k)) (same_number (sym l ∙ q)), refl);
     made = λ q. absurd (not_none (sym l ∙ q));
   }
 
   -- a version above 15
-  pub starts-high : (t : Start) → begun t ≡ started first_kind v a p → t ≡ s.Refused → r ≡ result (refused 301) → Starts v a p old r old
+  pub starts-high : (t : Start) → begun t ≡ started first_kind v a p → t ≡ s.Refused → r ≡ number_of (refused 301) → Starts v a p old r old
   starts-high t b e q = starts-barred 301 (high-line 301 old (ltb 15 v) (begun-refused v a p (sym (ap begun e) ∙ b))) q
 
   -- slices of other lengths
-  pub starts-unlent : (t : Start) (h : Head) → begun t ≡ started first_kind v a p → t ≡ s.Made h → lent old ≡ false → r ≡ result (refused 300) → Starts v a p old r old
+  pub starts-unlent : (t : Start) (h : Head) → begun t ≡ started first_kind v a p → t ≡ s.Made h → lent old ≡ false → r ≡ number_of (refused 300) → Starts v a p old r old
   starts-unlent t h b e l q = starts-barred 300 (unlent-line 301 old (ltb 15 v) (begun-made h v a p (sym (ap begun e) ∙ b)).0 l) q
 
   -- a new unit
-  pub starts-made : (t : Start) (h : Head) (new : Slices) → begun t ≡ started first_kind v a p → t ≡ s.Made h → lent old ≡ true → r ≡ result (done 0)
+  pub starts-made : (t : Start) (h : Head) (new : Slices) → begun t ≡ started first_kind v a p → t ≡ s.Made h → lent old ≡ true → r ≡ number_of (done 0)
       → new.head ≡ head_words h → new.table ≡ replicate (length old.table) 0 → new.memory ≡ replicate (length old.memory) 0 → Starts v a p old r new
   starts-made t h new b e l q w i o =
       let f = sym (ap begun e) ∙ b in
@@ -155,9 +155,9 @@ left-holds u h new e w d = record { kind = e; words = w ∙ ap head_words d.head
 -- ---- respond
 
 module _ (port : ℕ) (request : List ℕ) (old : Slices) (area : List ℕ) (r : ℤ) where
-  pub responds-barred : (n : ℕ) → port_line port old ≡ number n → r ≡ result (refused n) → Responds port request old area r old area
+  pub responds-barred : (n : ℕ) → port_line port old ≡ number n → r ≡ number_of (refused n) → Responds port request old area r old area
   responds-barred n l e = record {
-    barred = λ m q. (e ∙ ap (λ (k : ℕ). result (refused k)) (same_number (sym l ∙ q)), refl, refl);
+    barred = λ m q. (e ∙ ap (λ (k : ℕ). number_of (refused k)) (same_number (sym l ∙ q)), refl, refl);
     answered = λ q. absurd (not_none (sym l ∙ q));
   }
 
@@ -166,10 +166,10 @@ module _ (port : ℕ) (request : List ℕ) (old : Slices) (area : List ℕ) (r :
   responds new area' l f = record { barred = λ n q. absurd (not_none (sym q ∙ l)); answered = λ q. f }
 
 pub answers : (u : State) (p : Port) (s area area' : List ℕ) (old new : Slices) (y : Reply) (r : ℤ) → Holds u old
-    → Responded (respond u p s (length area)) y area area' new.table new.memory → new.head ≡ head_words y.head → r ≡ result (worded (word_of y.sent))
+    → Responded (respond u p s (length area)) y area area' new.table new.memory → new.head ≡ head_words y.head → r ≡ number_of (worded (word_of y.sent))
     → Answers (respond u p s (length area)) r area area' new
 answers u p s area area' old new y r k d w e = record {
-  says = e ∙ ap (λ x. result (worded x)) d.says;
+  says = e ∙ ap (λ x. number_of (worded x)) d.says;
   written = d.area;
   left = left-holds _ y.head new (respond-kind u p s (length area) k.kind) w d.left;
 }
@@ -177,9 +177,9 @@ answers u p s area area' old new y r k d w e = record {
 -- ---- fit
 
 module _ (mode : ℕ) (step : State → Step) (old : Slices) (r : ℤ) where
-  pub fits-barred : (n : ℕ) → mode_line mode old ≡ number n → r ≡ result (refused n) → Fits mode step old r old
+  pub fits-barred : (n : ℕ) → mode_line mode old ≡ number n → r ≡ number_of (refused n) → Fits mode step old r old
   fits-barred n l e = record {
-    barred = λ m q. (e ∙ ap (λ (k : ℕ). result (refused k)) (same_number (sym l ∙ q)), refl);
+    barred = λ m q. (e ∙ ap (λ (k : ℕ). number_of (refused k)) (same_number (sym l ∙ q)), refl);
     fitted = λ q. absurd (not_none (sym l ∙ q));
   }
 
@@ -187,8 +187,8 @@ module _ (mode : ℕ) (step : State → Step) (old : Slices) (r : ℤ) where
   fits new l f = record { barred = λ n q. absurd (not_none (sym q ∙ l)); fitted = λ q. f }
 
 pub does-fit : (u : State) (x size : ℕ) (mode : Mode) (spf : Bool) (lock : Access) (xs : List ℕ) (old new : Slices) (h : Head) (v : Verdict) (r : ℤ) → Holds u old
-    → Did (fit_step u x size mode spf lock xs) v h new.table new.memory → new.head ≡ head_words h → r ≡ result (judged v) → Does (fit_step u x size mode spf lock xs) r new
+    → Did (fit_step u x size mode spf lock xs) v h new.table new.memory → new.head ≡ head_words h → r ≡ number_of (judged v) → Does (fit_step u x size mode spf lock xs) r new
 does-fit u x size mode spf lock xs old new h v r k d w e = record {
-  says = e ∙ ap (λ t. result (judged t)) d.answered;
+  says = e ∙ ap (λ t. number_of (judged t)) d.answered;
   left = left-holds _ h new (fit-kind u x size mode spf lock xs k.kind) w d.left;
 }

@@ -12,7 +12,7 @@ use Rattle.store.specs.Model.{State, new_unit, first_kind}
 use Rattle.store.specs.Steps.{Step}
 use Rattle.responder.specs.Entry.{word_for, area_for}
 use Rattle.responder.specs.Respond.{Line, number, none, Out, respond}
-use Rattle.capi.specs.Result.{result, judged, worded}
+use Rattle.capi.specs.Result.{number_of, judged, worded}
 use Rattle.capi.specs.Slices.{Slices, lent, Holds}
 
 -- ---- what numbers stand for
@@ -53,30 +53,30 @@ mode_line mode x = barred_by (ltb 2 mode) 16 x
 
 -- a refusal touches nothing; otherwise the slices become a new unit, whatever they held
 pub record Starts (version : ℕ) (allocation passwords : Bool) (old : Slices) (r : ℤ) (new : Slices) : Type 0 where
-  pub barred : (n : ℕ) → start_line version old ≡ number n → (r ≡ result (refused n)) × (new ≡ old)
-  pub made : start_line version old ≡ none → (r ≡ result (done 0)) × Holds (new_unit first_kind version allocation passwords) new
+  pub barred : (n : ℕ) → start_line version old ≡ number n → (r ≡ number_of (refused n)) × (new ≡ old)
+  pub made : start_line version old ≡ none → (r ≡ number_of (done 0)) × Holds (new_unit first_kind version allocation passwords) new
 
 -- ---- respond
 
 -- number, answer area and unit are those of the responder's definition
 pub record Answers (o : Out) (r : ℤ) (area area' : List ℕ) (new : Slices) : Type 0 where
-  pub says : r ≡ result (worded (word_for o.result))
+  pub says : r ≡ number_of (worded (word_for o.result))
   pub written : area' ≡ area_for o.result area
   pub left : Holds o.unit new
 
 -- a refusal touches nothing; otherwise the unit is asked
 pub record Responds (port : ℕ) (request : List ℕ) (old : Slices) (area : List ℕ) (r : ℤ) (new : Slices) (area' : List ℕ) : Type 0 where
-  pub barred : (n : ℕ) → port_line port old ≡ number n → (r ≡ result (refused n)) × (new ≡ old) × (area' ≡ area)
+  pub barred : (n : ℕ) → port_line port old ≡ number n → (r ≡ number_of (refused n)) × (new ≡ old) × (area' ≡ area)
   pub answered : port_line port old ≡ none → (u : State) → Holds u old → Answers (respond u (port_of port) request (length area)) r area area' new
 
 -- ---- fit
 
 -- number and unit are those of the step, which a unit takes
 pub record Does (step : Step) (r : ℤ) (new : Slices) : Type 0 where
-  pub says : r ≡ result (judged step.answer)
+  pub says : r ≡ number_of (judged step.answer)
   pub left : Holds step.unit new
 
 -- "A refusal of either leaves all as it was."
 pub record Fits (mode : ℕ) (step : State → Step) (old : Slices) (r : ℤ) (new : Slices) : Type 0 where
-  pub barred : (n : ℕ) → mode_line mode old ≡ number n → (r ≡ result (refused n)) × (new ≡ old)
+  pub barred : (n : ℕ) → mode_line mode old ≡ number n → (r ≡ number_of (refused n)) × (new ≡ old)
   pub fitted : mode_line mode old ≡ none → (u : State) → Holds u old → Does (step u) r new

@@ -18,11 +18,11 @@ use Rattle.answers.specs.declared.Given.{Given}
 use Rattle.answers.specs.declared.Given.TheVariants as g
 use Rattle.answers.specs.declared.Reply.{Reply}
 use Rattle.answers.specs.declared.Reply.TheVariants as r
-use Rattle.capi.specs.Result.{result}
+use Rattle.capi.specs.Result.{number_of}
 
 -- the number is the outcome's, and the lent slice is left as it says
 pub record Gives (o : Outcome × List ℕ) (r : ℤ) (new : List ℕ) : Type 0 where
-  pub says : r ≡ result o.0
+  pub says : r ≡ number_of o.0
   pub area : new ≡ o.1
 
 -- ---- readers

@@ -11,9 +11,9 @@ use Rattle.responder.specs.declared.Sent.{Sent}
 use Rattle.responder.specs.declared.Sent.TheVariants as s
 
 -- what there is to tell, or minus the number of the refusal
-abbrev pub result : Outcome → ℤ
-result (done n) = pos n
-result (refused n) = neg_ℤ (pos n)
+abbrev pub number_of : Outcome → ℤ
+number_of (done n) = pos n
+number_of (refused n) = neg_ℤ (pos n)
 
 -- a fitting is done, or has the number that refuses it
 abbrev pub judged : Verdict → Outcome

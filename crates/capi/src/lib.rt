@@ -16,7 +16,7 @@ ghost use Rattle.admission.specs.Mode.{code_mode};
 ghost use Rattle.store.specs.Model.{State, first_kind};
 ghost use Rattle.store.specs.Steps.{fit_step};
 ghost use Rattle.responder.specs.Entry.{word_of};
-ghost use Rattle.capi.specs.Result.{result, judged, worded, WrittenShort, SentShort};
+ghost use Rattle.capi.specs.Result.{number_of, judged, worded, WrittenShort, SentShort};
 ghost use Rattle.capi.specs.Slices.{slices, lent, head_words, Kept};
 ghost use Rattle.capi.specs.Calls.{port_of, access_of, form_for, Starts, Responds, Fits};
 ghost use Rattle.capi.specs.Gate.{Gives, filled, roomless, given_words, ReadsAnswer, ReadsTag, ReadsMemory, ReadsResource};
@@ -32,14 +32,14 @@ use tags::{Key, Memory};
 // ---- the number that a caller is given
 
 fn refusal(number: u16) -> i32
-    ensures* { λ r. ⌜ r ≡ result (refused number) ⌝ }
+    ensures { result ≡ number_of (refused number) }
 {
     -(number as i32)
 }
 
 fn of_written(written: Written) -> i32
     requires { WrittenShort written }
-    ensures* { λ r. ⌜ r ≡ result (outcome written) ⌝ }
+    ensures { result ≡ number_of (outcome written) }
 {
     match written {
         Written::Done(n) => n as i32,
@@ -50,7 +50,7 @@ fn of_written(written: Written) -> i32
 
 fn of_sent(sent: Sent) -> i32
     requires { SentShort sent }
-    ensures* { λ r. ⌜ r ≡ result (worded (word_of sent)) ⌝ }
+    ensures { result ≡ number_of (worded (word_of sent)) }
 {
     match sent {
         Sent::Answer(n) => n as i32,
@@ -59,7 +59,7 @@ fn of_sent(sent: Sent) -> i32
 }
 
 fn of_verdict(verdict: Verdict) -> i32
-    ensures* { λ r. ⌜ r ≡ result (judged verdict) ⌝ }
+    ensures { result ≡ number_of (judged verdict) }
 {
     match verdict {
         Verdict::Allowed => 0,
@@ -70,7 +70,7 @@ fn of_verdict(verdict: Verdict) -> i32
 // ---- what numbers stand for
 
 fn port_of(port: u8) -> Port
-    ensures* { λ r. ⌜ r ≡ port_of port ⌝ }
+    ensures { result ≡ port_of port }
 {
     if port == 1 {
         return Port::Secure;
@@ -79,7 +79,7 @@ fn port_of(port: u8) -> Port
 }
 
 fn access_of(locked: bool, password: u64) -> Access
-    ensures* { λ r. ⌜ r ≡ access_of locked password ⌝ }
+    ensures { result ≡ access_of locked password }
 {
     if locked {
         return Access::Password(password);
@@ -88,7 +88,7 @@ fn access_of(locked: bool, password: u64) -> Access
 }
 
 fn form_for(locked: bool) -> Form
-    ensures* { λ r. ⌜ r ≡ form_for locked ⌝ }
+    ensures { result ≡ form_for locked }
 {
     if locked {
         return Form::Password;
@@ -100,7 +100,7 @@ fn form_for(locked: bool) -> Form
 
 // Whether the slices have a unit's lengths.
 fn are_lent(head: &[u64], table: &[u64], memory: &[u8]) -> bool
-    ensures* { λ r. ⌜ r ≡ lent (slices head.now table.now memory.now) ⌝ }
+    ensures { result ≡ lent (slices head.now table.now memory.now) }
 {
     if head.len() != 5 {
         return false;
@@ -114,7 +114,7 @@ fn are_lent(head: &[u64], table: &[u64], memory: &[u8]) -> bool
 // The head that five words are.
 fn head_of(words: &[u64]) -> Head
     requires { (length words.now ≡ 5) × (get_or words.now 0 0 < 256) }
-    ensures* { λ r. ⌜ ((h : Head) → h.limits ≡ first_kind → words.now ≡ head_words h → r ≡ h) ⌝ }
+    ensures { (h : Head) → h.limits ≡ first_kind → words.now ≡ head_words h → result ≡ h }
 {
     let allocation = words[1] != 0;
     let passwords = words[2] != 0;
@@ -137,7 +137,7 @@ fn head_of(words: &[u64]) -> Head
 // The words of a head.
 fn put_head(words: &mut [u64], head: Head)
     requires { length words.old ≡ 5 }
-    ensures* { λ _. ⌜ words.new ≡ head_words head ⌝ }
+    ensures { words.new ≡ head_words head }
 {
     words[0] = head.version as u64;
     words[1] = head.allocation as u64;
@@ -147,7 +147,7 @@ fn put_head(words: &mut [u64], head: Head)
 }
 
 fn clear_words(words: &mut [u64])
-    ensures* { λ _. ⌜ words.new ≡ replicate (length words.old) 0 ⌝ }
+    ensures { words.new ≡ replicate (length words.old) 0 }
 {
     let mut i = 0;
     while i < words.len() {
@@ -157,7 +157,7 @@ fn clear_words(words: &mut [u64])
 }
 
 fn clear_octets(memory: &mut [u8])
-    ensures* { λ _. ⌜ memory.new ≡ replicate (length memory.old) 0 ⌝ }
+    ensures { memory.new ≡ replicate (length memory.old) 0 }
 {
     let mut i = 0;
     while i < memory.len() {
@@ -178,7 +178,7 @@ pub extern "C" fn taxeedhuul_start(
     allocation: bool,
     passwords: bool,
 ) -> i32
-    ensures* { λ r. ⌜ Starts version allocation passwords (slices head.old table.old memory.old) r (slices head.new table.new memory.new) ⌝ }
+    ensures { Starts version allocation passwords (slices head.old table.old memory.old) result (slices head.new table.new memory.new) }
 {
     let Start::Made(new) = Unit::start(version, allocation, passwords) else {
         return refusal(301);
@@ -204,7 +204,7 @@ pub extern "C" fn taxeedhuul_respond(
     answer: &mut [u8],
 ) -> i32
     requires { Kept head.old table.old memory.old }
-    ensures* { λ r. ⌜ Responds port request.now (slices head.old table.old memory.old) answer.old r (slices head.new table.new memory.new) answer.new ⌝ }
+    ensures { Responds port request.now (slices head.old table.old memory.old) answer.old result (slices head.new table.new memory.new) answer.new }
 {
     if 1 < port {
         return refusal(16);
@@ -236,7 +236,7 @@ pub extern "C" fn taxeedhuul_fit(
     first: &[u8],
 ) -> i32
     requires { Kept head.old table.old memory.old }
-    ensures* { λ r. ⌜ Fits mode (λ (u : State). fit_step u tag size (code_mode mode) spf (access_of locked password) first.now) (slices head.old table.old memory.old) r (slices head.new table.new memory.new) ⌝ }
+    ensures { Fits mode (λ (u : State). fit_step u tag size (code_mode mode) spf (access_of locked password) first.now) (slices head.old table.old memory.old) result (slices head.new table.new memory.new) }
 {
     if 2 < mode {
         return refusal(16);
@@ -263,7 +263,7 @@ pub extern "C" fn taxeedhuul_write_resource_information(
     version: u8,
     tags: &[u64],
 ) -> i32
-    ensures* { λ r. ⌜ Gives (request_sent (request version Form.Plain (b.resource_information (keys_of Form.Plain tags.now []))) area.old) r area.new ⌝ }
+    ensures { Gives (request_sent (request version Form.Plain (b.resource_information (keys_of Form.Plain tags.now []))) area.old) result area.new }
 {
     of_written(requests::write_resources(area, version, tags))
 }
@@ -280,7 +280,7 @@ pub extern "C" fn taxeedhuul_write_allocate(
     password: u64,
     initial: &[u8],
 ) -> i32
-    ensures* { λ r. ⌜ Gives (request_sent (request version (form_of (access_of locked password)) (b.allocate (record { tag = tag; mode = mode; size = size; access = access_of locked password; initial = initial.now }))) area.old) r area.new ⌝ }
+    ensures { Gives (request_sent (request version (form_of (access_of locked password)) (b.allocate (record { tag = tag; mode = mode; size = size; access = access_of locked password; initial = initial.now }))) area.old) result area.new }
 {
     let access = access_of(locked, password);
     of_written(requests::write_allocate(area, version, access, tag, mode, size, initial))
@@ -294,7 +294,7 @@ pub extern "C" fn taxeedhuul_write_free(
     locked: bool,
     password: u64,
 ) -> i32
-    ensures* { λ r. ⌜ Gives (request_sent (request version (form_of (access_of locked password)) (b.free (tag, access_of locked password))) area.old) r area.new ⌝ }
+    ensures { Gives (request_sent (request version (form_of (access_of locked password)) (b.free (tag, access_of locked password))) area.old) result area.new }
 {
     let access = access_of(locked, password);
     of_written(requests::write_free(area, version, access, tag))
@@ -308,7 +308,7 @@ pub extern "C" fn taxeedhuul_write_read(
     locked: bool,
     password: u64,
 ) -> i32
-    ensures* { λ r. ⌜ Gives (request_sent (request version (form_of (access_of locked password)) (b.read (tag, access_of locked password))) area.old) r area.new ⌝ }
+    ensures { Gives (request_sent (request version (form_of (access_of locked password)) (b.read (tag, access_of locked password))) area.old) result area.new }
 {
     let access = access_of(locked, password);
     of_written(requests::write_read(area, version, access, tag))
@@ -323,7 +323,7 @@ pub extern "C" fn taxeedhuul_write_write(
     password: u64,
     bytes: &[u8],
 ) -> i32
-    ensures* { λ r. ⌜ Gives (request_sent (request version (form_of (access_of locked password)) (b.write ((tag, access_of locked password), bytes.now))) area.old) r area.new ⌝ }
+    ensures { Gives (request_sent (request version (form_of (access_of locked password)) (b.write ((tag, access_of locked password), bytes.now))) area.old) result area.new }
 {
     let access = access_of(locked, password);
     of_written(requests::write_write(area, version, access, tag, bytes))
@@ -338,7 +338,7 @@ pub extern "C" fn taxeedhuul_write_bulk_read(
     tags: &[u64],
     passwords: &[u64],
 ) -> i32
-    ensures* { λ r. ⌜ Gives (bulk_read_sent (form_for locked) version tags.now passwords.now area.old) r area.new ⌝ }
+    ensures { Gives (bulk_read_sent (form_for locked) version tags.now passwords.now area.old) result area.new }
 {
     let form = form_for(locked);
     of_written(requests::write_bulk_read(area, version, form, tags, passwords))
@@ -356,7 +356,7 @@ pub extern "C" fn taxeedhuul_write_bulk_write(
     lengths: &[usize],
     bytes: &[u8],
 ) -> i32
-    ensures* { λ r. ⌜ Gives (bulk_write_sent (form_for locked) version tags.now passwords.now starts.now lengths.now bytes.now area.old) r area.new ⌝ }
+    ensures { Gives (bulk_write_sent (form_for locked) version tags.now passwords.now starts.now lengths.now bytes.now area.old) result area.new }
 {
     let form = form_for(locked);
     of_written(requests::write_bulk_write(
@@ -368,7 +368,7 @@ pub extern "C" fn taxeedhuul_write_bulk_write(
 
 fn store_words(fields: &mut [u64], words: &[u64])
     requires { length words.now ≤ length fields.old }
-    ensures* { λ _. ⌜ fields.new ≡ sets fields.old 0 words.now ⌝ }
+    ensures { fields.new ≡ sets fields.old 0 words.now }
 {
     let mut i = 0;
     while i < words.len() {
@@ -379,7 +379,7 @@ fn store_words(fields: &mut [u64], words: &[u64])
 
 // Puts words at the front of the lent ones, if they are enough, and tells a number.
 fn fill(fields: &mut [u64], words: &[u64], number: u16) -> i32
-    ensures* { λ r. ⌜ Gives (filled number words.now fields.old) r fields.new ⌝ }
+    ensures { Gives (filled number words.now fields.old) result fields.new }
 {
     if fields.len() < words.len() {
         return refusal(300);
@@ -391,7 +391,7 @@ fn fill(fields: &mut [u64], words: &[u64], number: u16) -> i32
 // The type of an answer, by its operation's number.
 fn kind_of(form: Form, number: u8) -> u8
     requires { number ≤ 6 }
-    ensures* { λ r. ⌜ r ≡ number + form_number form + 128 ⌝ }
+    ensures { result ≡ number + form_number form + 128 }
 {
     match form {
         Form::Plain => number + 128,
@@ -401,7 +401,7 @@ fn kind_of(form: Form, number: u8) -> u8
 
 // The words of an answer that tells no room.
 fn row(kind: u8, version: u8, status: u8, tag: u64, start: usize, count: usize) -> [u64; 12]
-    ensures* { λ r. ⌜ r ≡ roomless kind version status tag start count ⌝ }
+    ensures { result ≡ roomless kind version status tag start count }
 {
     [
         kind as u64,
@@ -421,7 +421,7 @@ fn row(kind: u8, version: u8, status: u8, tag: u64, start: usize, count: usize) 
 
 // The words of an answer.
 fn words_of(version: u8, given: Given) -> [u64; 12]
-    ensures* { λ r. ⌜ r ≡ given_words version given ⌝ }
+    ensures { result ≡ given_words version given }
 {
     match given {
         Given::Resources(room, list) => [
@@ -465,7 +465,7 @@ fn words_of(version: u8, given: Given) -> [u64; 12]
 // what a unit can take.
 #[unsafe(no_mangle)]
 pub extern "C" fn taxeedhuul_read_answer(octets: &[u8], fields: &mut [u64]) -> i32
-    ensures* { λ r. ⌜ ReadsAnswer octets.now fields.old r fields.new ⌝ }
+    ensures { ReadsAnswer octets.now fields.old result fields.new }
 {
     match answers::read_answer(octets) {
         Reply::Bad(_) => refusal(16),
@@ -488,7 +488,7 @@ pub extern "C" fn taxeedhuul_read_answer(octets: &[u8], fields: &mut [u64]) -> i
 // The entry of a list of tags at a place: where the next starts. The word: the tag.
 #[unsafe(no_mangle)]
 pub extern "C" fn taxeedhuul_read_tag(octets: &[u8], at: usize, fields: &mut [u64]) -> i32
-    ensures* { λ r. ⌜ ReadsTag octets.now at fields.old r fields.new ⌝ }
+    ensures { ReadsTag octets.now at fields.old result fields.new }
 {
     let Key::Value {
         access: _,
@@ -508,7 +508,7 @@ pub extern "C" fn taxeedhuul_read_tag(octets: &[u8], at: usize, fields: &mut [u6
 // The entry of a list of memory data at a place: where the next starts. The words: tag, first place and length of the data.
 #[unsafe(no_mangle)]
 pub extern "C" fn taxeedhuul_read_memory_data(octets: &[u8], at: usize, fields: &mut [u64]) -> i32
-    ensures* { λ r. ⌜ ReadsMemory octets.now at fields.old r fields.new ⌝ }
+    ensures { ReadsMemory octets.now at fields.old result fields.new }
 {
     let Memory::Value {
         access: _,
@@ -529,7 +529,7 @@ pub extern "C" fn taxeedhuul_read_memory_data(octets: &[u8], at: usize, fields: 
 // The entry of a list of resource information at a place: where the next starts. The words: tag, mode code, data size, area size.
 #[unsafe(no_mangle)]
 pub extern "C" fn taxeedhuul_read_resource(octets: &[u8], at: usize, fields: &mut [u64]) -> i32
-    ensures* { λ r. ⌜ ReadsResource octets.now at fields.old r fields.new ⌝ }
+    ensures { ReadsResource octets.now at fields.old result fields.new }
 {
     let ResourceRead::Value { resource, next } = resources::read_resource(octets, at) else {
         return refusal(16);

@@ -12,7 +12,12 @@ ghost use Rattle.gatelog.specs.Place.{first_place, Within, Roomy, enough_turns, 
 
 use admission::Head;
 use records::Turn;
+use std::io;
+use std::io::Read;
 use store::{Start, Unit};
+
+// What the input buffer holds, and the output buffer.
+const BUFFER: usize = 65536;
 
 // Where the program stands: the unit's head, how many records are answered, the octets at hand (from `start` to `end` of the input buffer), how many characters are not
 // yet written, how many were handed over to be written last, whether the input is at its end, and whether to go on.
@@ -44,19 +49,31 @@ fn first_place(head: Head) -> Place
     }
 }
 
+// Says on standard error what failed, and the system's words for it. Behind those std's text of an error has its number, as in ` (os error 28)`, which is left out.
+fn fail(rt: &(impl Eprint + AllocGlobal), what: &str, error: io::Error) {
+    let told = match format!(in rt.alloc(); "{error}") {
+        Ok(text) => match text.split_once(" (os error ") {
+            Some((words, _)) => eprintln!(rt; "{what}: {words}"),
+            None => eprintln!(rt; "{what}: {text}"),
+        },
+        Err(_) => eprintln!(rt; "{what}: {error}"),
+    };
+    // Where standard error takes nothing, nothing is said.
+    let _ = told;
+}
+
 // Writes what is not yet written.
-fn write_out(mut place: Place, out: &[u8]) -> Place
+fn write_out(rt: &(impl Print + Eprint + AllocGlobal), mut place: Place, out: &[u8]) -> Place
     requires { place.filled ≤ length out.now }
     ensures { (result.head ≡ place.head) × Emptied place.filled place result × Tried place result }
 {
     let handed = place.filled;
     place.filled = 0;
     place.handed = handed;
-    if io::write_all(libc::STDOUT_FILENO, &out[..handed]) {
-        return place;
+    if let Err(error) = rt.write_all(&out[..handed]) {
+        fail(rt, "write", error);
+        place.going = false;
     }
-    os::fail(b"write");
-    place.going = false;
     place
 }
 
@@ -74,17 +91,24 @@ fn move_down(input: &mut [u8], start: usize, end: usize)
 }
 
 // Reads behind the octets at hand, of which there are fewer than the buffer holds. A read that fails says so, and is the end of the input.
-fn read_more(mut place: Place, input: &mut [u8]) -> Place
+fn read_more(
+    rt: &(impl Eprint + AllocGlobal),
+    stdin: &mut impl Read,
+    mut place: Place,
+    input: &mut [u8],
+) -> Place
     requires { (place.start ≤ place.end) × (place.end ≤ length input.old) × (place.end - place.start < length input.old) }
     ensures { (result.head ≡ place.head) × Refilled place result input.old input.new }
 {
     let n = place.end - place.start;
     move_down(input, place.start, place.end);
-    let got = libc::read(libc::STDIN_FILENO, &mut input[n..]);
-    if got < 0 {
-        os::fail(b"read");
-    }
-    let more = io::count(got, &input[n..]);
+    let more = match stdin.read(&mut input[n..]) {
+        Ok(more) => more,
+        Err(error) => {
+            fail(rt, "read", error);
+            0
+        }
+    };
     place.start = 0;
     place.end = n + more;
     place.last = more == 0;
@@ -93,6 +117,8 @@ fn read_more(mut place: Place, input: &mut [u8]) -> Place
 
 // One turn: `records::step` on the octets at hand, and what it says of them done (specs/Place, `TurnTaken`). Before it reads, everything that was answered is written.
 fn go_on(
+    rt: &(impl Print + Eprint + AllocGlobal),
+    stdin: &mut impl Read,
     mut place: Place,
     table: &mut [u64],
     pool: &mut [u8],
@@ -131,24 +157,26 @@ fn go_on(
             place
         }
         Turn::More => {
-            let place = write_out(place, out);
+            let place = write_out(rt, place, out);
             if place.going {
-                read_more(place, input)
+                read_more(rt, stdin, place, input)
             } else {
                 place
             }
         }
-        Turn::NoRoom => write_out(place, out),
+        Turn::NoRoom => write_out(rt, place, out),
         Turn::Ended { written } => {
             place.filled = filled + written;
             place.going = false;
-            write_out(place, out)
+            write_out(rt, place, out)
         }
     }
 }
 
 // A proved loop has to end, and nothing says that the input does: it has as many turns as any run takes (specs/Place, `enough_turns`), or more.
 fn run(
+    rt: &(impl Print + Eprint + AllocGlobal),
+    stdin: &mut impl Read,
     head: Head,
     table: &mut [u64],
     pool: &mut [u8],
@@ -162,19 +190,29 @@ fn run(
 {
     let mut place = first_place(head);
     while turns > 0 && place.going {
-        place = go_on(place, table, pool, input, out);
+        place = go_on(rt, stdin, place, table, pool, input, out);
         turns -= 1;
     }
 }
 
-fn main() {
+fn main(rt: HostRuntime) {
     let unit = Unit::new();
     let mut table = unit.table;
     let mut pool = unit.pool;
     let Start::Made(head) = Unit::start(1, true, true) else {
         return;
     };
-    let mut input = io::large_buffer();
-    let mut out = io::large_buffer();
-    run(head, &mut table, &mut pool, &mut input, &mut out, u64::MAX);
+    let mut stdin = rt.stdin();
+    let mut input = [0; BUFFER];
+    let mut out = [0; BUFFER];
+    run(
+        &rt,
+        &mut stdin,
+        head,
+        &mut table,
+        &mut pool,
+        &mut input,
+        &mut out,
+        u64::MAX,
+    );
 }

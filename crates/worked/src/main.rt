@@ -11,6 +11,7 @@ ghost use Rattle.worked.specs.Result.{number_of};
 
 use octets::{Access, Form, Written};
 use shown::{hexadecimal, number, text};
+use std::io;
 
 // A tag.
 const K: u64 = 0x0011_2233_4455_6677;
@@ -35,89 +36,89 @@ fn result(written: Written) -> usize
 // ---- messages, written and read back
 
 // A message; of a long one its first 20 octets and its length.
-fn message(name: &[u8], s: &[u8]) {
-    text(name);
-    text(b" ");
+fn message(rt: &impl Print, name: &str, s: &[u8]) -> io::Result<()> {
+    text(rt, name)?;
+    text(rt, " ")?;
     if s.len() <= 64 {
-        hexadecimal(s);
+        hexadecimal(rt, s)?;
     } else {
-        hexadecimal(octets::part(s, 0, 20));
-        number(s.len());
+        hexadecimal(rt, octets::part(s, 0, 20))?;
+        number(rt, s.len())?;
     }
-    text(b"\n ");
+    text(rt, "\n ")
 }
 
 // Shows the request that was written, and what it reads back as.
-fn request(name: &[u8], written: Written, area: &[u8]) {
+fn request(rt: &impl Print, name: &str, written: Written, area: &[u8]) -> io::Result<()> {
     let s = octets::part(area, 0, result(written));
-    message(name, s);
-    shown::request(s);
+    message(rt, name, s)?;
+    shown::request(rt, s)
 }
 
-fn answer(name: &[u8], written: Written, area: &[u8]) {
+fn answer(rt: &impl Print, name: &str, written: Written, area: &[u8]) -> io::Result<()> {
     let s = octets::part(area, 0, result(written));
-    message(name, s);
-    shown::answer(s);
+    message(rt, name, s)?;
+    shown::answer(rt, s)
 }
 
 // Of one tag, plain or with its password.
-fn single_requests(area: &mut [u8; 2048], access: Access) {
+fn single_requests(rt: &impl Print, area: &mut [u8; 2048], access: Access) -> io::Result<()> {
     let written = requests::write_allocate(area, 1, access, K, 0, 1, &[]);
-    request(b"allocate", written, area);
-    request(b"free", requests::write_free(area, 1, access, K), area);
-    request(b"read", requests::write_read(area, 1, access, K), area);
+    request(rt, "allocate", written, area)?;
+    request(rt, "free", requests::write_free(area, 1, access, K), area)?;
+    request(rt, "read", requests::write_read(area, 1, access, K), area)?;
     let written = requests::write_write(area, 1, access, K, &[0xaa]);
-    request(b"write", written, area);
+    request(rt, "write", written, area)
 }
 
 // Of lists of tags, and an allocation with a mode and an initial value.
-fn other_requests(area: &mut [u8; 2048]) {
+fn other_requests(rt: &impl Print, area: &mut [u8; 2048]) -> io::Result<()> {
     let plain = Form::Plain;
     let one = [0xaa];
     let written = requests::write_resources(area, 1, &[K]);
-    request(b"resources", written, area);
+    request(rt, "resources", written, area)?;
     let written = requests::write_allocate(area, 1, Access::Plain, V, 5, 1024, &[0xaa, 0xbb]);
-    request(b"allocate", written, area);
+    request(rt, "allocate", written, area)?;
     let written = requests::write_bulk_read(area, 1, plain, &[K, V], &[]);
-    request(b"bulk-read", written, area);
+    request(rt, "bulk-read", written, area)?;
     let written = requests::write_bulk_read(area, 1, Form::Password, &[K], &[P]);
-    request(b"bulk-read", written, area);
+    request(rt, "bulk-read", written, area)?;
     let written = requests::write_bulk_write(area, 1, plain, &[K, V], &[], &[0, 1], &[1, 0], &one);
-    request(b"bulk-write", written, area);
+    request(rt, "bulk-write", written, area)?;
     let written = requests::write_bulk_write(area, 1, Form::Password, &[K], &[P], &[0], &[1], &one);
-    request(b"bulk-write", written, area);
+    request(rt, "bulk-write", written, area)
 }
 
 // Where lengths and counts go from one octet to two.
-fn long_requests(area: &mut [u8; 2048]) {
+fn long_requests(rt: &impl Print, area: &mut [u8; 2048]) -> io::Result<()> {
     let plain = Access::Plain;
     let data = [0xaa; 200];
     let tags = [K; 255];
     let written = requests::write_write(area, 1, plain, K, octets::part(&data, 0, 118));
-    request(b"write-118", written, area);
+    request(rt, "write-118", written, area)?;
     let written = requests::write_write(area, 1, plain, K, octets::part(&data, 0, 119));
-    request(b"write-119", written, area);
+    request(rt, "write-119", written, area)?;
     let written = requests::write_write(area, 1, plain, K, &data);
-    request(b"write-200", written, area);
+    request(rt, "write-200", written, area)?;
     let written = requests::write_bulk_read(area, 1, Form::Plain, &tags[..16], &[]);
-    request(b"bulk-read-16", written, area);
+    request(rt, "bulk-read-16", written, area)?;
     let written = requests::write_bulk_read(area, 1, Form::Plain, &tags[..17], &[]);
-    request(b"bulk-read-17", written, area);
+    request(rt, "bulk-read-17", written, area)?;
     let written = requests::write_bulk_read(area, 1, Form::Plain, &tags, &[]);
-    request(b"bulk-read-255", written, area);
+    request(rt, "bulk-read-255", written, area)
 }
 
-fn single_answers(area: &mut [u8; 2048], form: Form) {
+fn single_answers(rt: &impl Print, area: &mut [u8; 2048], form: Form) -> io::Result<()> {
     let written = answers::write_allocate(area, 1, form, K);
-    answer(b"allocate", written, area);
-    answer(b"free", answers::write_free(area, 1, form, K), area);
+    answer(rt, "allocate", written, area)?;
+    answer(rt, "free", answers::write_free(area, 1, form, K), area)?;
     let written = answers::write_read(area, 1, form, K, &[0xaa]);
-    answer(b"read", written, area);
-    answer(b"write", answers::write_write(area, 1, form, K), area);
+    answer(rt, "read", written, area)?;
+    answer(rt, "write", answers::write_write(area, 1, form, K), area)
 }
 
 // Lists, and the denial.
-fn other_answers(area: &mut [u8; 2048]) {
+fn other_answers(rt: &impl Print, area: &mut [u8; 2048]) -> io::Result<()> {
     let room = resources::Room {
         largest: 2048,
         tags: 31,
@@ -127,116 +128,122 @@ fn other_answers(area: &mut [u8; 2048]) {
         entries: 16,
     };
     let written = answers::write_resources(area, 1, room, &[K], &[5], &[0], &[64]);
-    answer(b"resources", written, area);
+    answer(rt, "resources", written, area)?;
     let written = answers::write_bulk_read(area, 1, Form::Plain, &[K], &[0], &[1], &[0xaa]);
-    answer(b"bulk-read", written, area);
+    answer(rt, "bulk-read", written, area)?;
     let written = answers::write_bulk_read(area, 1, Form::Password, &[K], &[0], &[1], &[0xaa]);
-    answer(b"bulk-read", written, area);
+    answer(rt, "bulk-read", written, area)?;
     let written = answers::write_bulk_write(area, 1, Form::Plain, &[K, K]);
-    answer(b"bulk-write", written, area);
+    answer(rt, "bulk-write", written, area)?;
     let written = answers::write_bulk_write(area, 1, Form::Password, &[K]);
-    answer(b"bulk-write", written, area);
+    answer(rt, "bulk-write", written, area)?;
     let written = answers::write_denial(area, 1, 4, &[0x10]);
-    answer(b"denial", written, area);
+    answer(rt, "denial", written, area)
 }
 
 // ---- what is refused
 
 // The number that a writer gave.
-fn refusal(name: &[u8], written: Written) {
-    text(name);
-    text(b":");
-    number(result(written));
-    text(b"\n");
+fn refusal(rt: &impl Print, name: &str, written: Written) -> io::Result<()> {
+    text(rt, name)?;
+    text(rt, ":")?;
+    number(rt, result(written))?;
+    text(rt, "\n")
 }
 
 // Whether octets are still as they were.
-fn kept(name: &[u8], s: &[u8]) {
+fn kept(rt: &impl Print, name: &str, s: &[u8]) -> io::Result<()> {
     let old = [OLD; 2048];
-    text(name);
-    if check::same(s, octets::part(&old, 0, s.len())) {
-        text(b": kept\n");
+    text(rt, name)?;
+    if s == octets::part(&old, 0, s.len()) {
+        text(rt, ": kept\n")
     } else {
-        text(b": changed\n");
+        text(rt, ": changed\n")
     }
 }
 
 // Values and lengths that no message may have: 16.
-fn refused_values(area: &mut [u8; 2048]) {
+fn refused_values(rt: &impl Print, area: &mut [u8; 2048]) -> io::Result<()> {
     let plain = Access::Plain;
     let long = [0xaa; 2033];
     let written = requests::write_read(area, 16, plain, K);
-    refusal(b"version 16", written);
+    refusal(rt, "version 16", written)?;
     let written = requests::write_allocate(area, 1, plain, K, 3, 1, &[]);
-    refusal(b"mode 03", written);
+    refusal(rt, "mode 03", written)?;
     let written = requests::write_allocate(area, 1, plain, K, 8, 1, &[]);
-    refusal(b"mode 08", written);
+    refusal(rt, "mode 08", written)?;
     let written = answers::write_denial(area, 1, 16, octets::part(&long, 0, 128));
-    refusal(b"supplement of 128 octets", written);
+    refusal(rt, "supplement of 128 octets", written)?;
     let written = requests::write_write(area, 1, plain, K, &long);
-    refusal(b"write of 2033 octets", written);
-    kept(b"area", area);
+    refusal(rt, "write of 2033 octets", written)?;
+    kept(rt, "area", area)
 }
 
 // Slices that describe no message: 16; an area one octet too short: 300, and 16 before it.
-fn refused_slices(area: &mut [u8; 2048]) {
+fn refused_slices(rt: &impl Print, area: &mut [u8; 2048]) -> io::Result<()> {
     let plain = Access::Plain;
     let mut short = [OLD; 12];
     let written = requests::write_bulk_read(area, 1, Form::Password, &[K, V], &[P]);
-    refusal(b"passwords one too few", written);
+    refusal(rt, "passwords one too few", written)?;
     let written = requests::write_bulk_write(area, 1, Form::Plain, &[K], &[], &[0], &[2], &[0xaa]);
-    refusal(b"part past the octets", written);
-    kept(b"area", area);
+    refusal(rt, "part past the octets", written)?;
+    kept(rt, "area", area)?;
     let written = requests::write_read(&mut short, 1, plain, K);
-    refusal(b"area of 12 octets", written);
+    refusal(rt, "area of 12 octets", written)?;
     let written = requests::write_read(&mut short, 16, plain, K);
-    refusal(b"version 16 in an area of 12 octets", written);
-    kept(b"area of 12 octets", &short);
+    refusal(rt, "version 16 in an area of 12 octets", written)?;
+    kept(rt, "area of 12 octets", &short)?;
     requests::write_read(area, 1, plain, K);
-    kept(b"area with a read", area);
-    kept(b"octets past a read", octets::part(area, 13, 2048));
+    kept(rt, "area with a read", area)?;
+    kept(rt, "octets past a read", octets::part(area, 13, 2048))
 }
 
 // Octets that are no message: 16.
-fn damaged() {
-    text(b"empty:");
-    shown::request(b"");
-    text(b"80 08 for a length:");
-    shown::request(b"\x10\x01\x03\x00\x80\x08\x00\x11\x22\x33\x44\x55\x66\x77");
-    text(b"C0 for a length:");
-    shown::request(b"\x10\x01\x03\x00\xC0");
-    text(b"fill bits not zero:");
-    shown::request(b"\x11\x01\x03\x00\x08\x00\x11\x22\x33\x44\x55\x66\x77");
-    text(b"stray octet:");
-    shown::request(b"\x10\x01\x03\x00\x09\x00\x11\x22\x33\x44\x55\x66\x77\x00");
-    text(b"mode 03:");
+fn damaged(rt: &impl Print) -> io::Result<()> {
+    text(rt, "empty:")?;
+    shown::request(rt, b"")?;
+    text(rt, "80 08 for a length:")?;
+    shown::request(
+        rt,
+        b"\x10\x01\x03\x00\x80\x08\x00\x11\x22\x33\x44\x55\x66\x77",
+    )?;
+    text(rt, "C0 for a length:")?;
+    shown::request(rt, b"\x10\x01\x03\x00\xC0")?;
+    text(rt, "fill bits not zero:")?;
+    shown::request(rt, b"\x11\x01\x03\x00\x08\x00\x11\x22\x33\x44\x55\x66\x77")?;
+    text(rt, "stray octet:")?;
+    shown::request(
+        rt,
+        b"\x10\x01\x03\x00\x09\x00\x11\x22\x33\x44\x55\x66\x77\x00",
+    )?;
+    text(rt, "mode 03:")?;
     let mode = b"\x10\x01\x01\x00\x0E\x00\x11\x22\x33\x44\x55\x66\x77\x03\x00\x00\x00\x01\x00";
-    shown::request(mode);
-    text(b"answer as a request:");
-    shown::request(b"\x10\x01\x81\x00\x08\x00\x11\x22\x33\x44\x55\x66\x77");
-    text(b"denial with 80 for a length:");
-    shown::answer(b"\x10\xFF\x10\x80");
+    shown::request(rt, mode)?;
+    text(rt, "answer as a request:")?;
+    shown::request(rt, b"\x10\x01\x81\x00\x08\x00\x11\x22\x33\x44\x55\x66\x77")?;
+    text(rt, "denial with 80 for a length:")?;
+    shown::answer(rt, b"\x10\xFF\x10\x80")?;
     let mut long = [0xaa; 2049];
     octets::copy(&mut long, 0, b"\x10\xFF\x10\x80\x80");
-    text(b"denial with 128 octets:");
-    shown::answer(octets::part(&long, 0, 133));
+    text(rt, "denial with 128 octets:")?;
+    shown::answer(rt, octets::part(&long, 0, 133))?;
     let head = b"\x10\x01\x04\x00\x87\xFB\x00\x11\x22\x33\x44\x55\x66\x77\x87\xF1";
     octets::copy(&mut long, 0, head);
-    text(b"2049 octets:");
-    shown::request(&long);
+    text(rt, "2049 octets:")?;
+    shown::request(rt, &long)
 }
 
-fn main() {
+fn main(rt: HostRuntime) -> io::Result<()> {
     let mut area = [OLD; 2048];
-    other_requests(&mut area);
-    single_requests(&mut area, Access::Plain);
-    single_requests(&mut area, Access::Password(P));
-    long_requests(&mut area);
-    other_answers(&mut area);
-    single_answers(&mut area, Form::Plain);
-    single_answers(&mut area, Form::Password);
+    other_requests(&rt, &mut area)?;
+    single_requests(&rt, &mut area, Access::Plain)?;
+    single_requests(&rt, &mut area, Access::Password(P))?;
+    long_requests(&rt, &mut area)?;
+    other_answers(&rt, &mut area)?;
+    single_answers(&rt, &mut area, Form::Plain)?;
+    single_answers(&rt, &mut area, Form::Password)?;
     let mut fresh = [OLD; 2048];
-    refused_values(&mut fresh);
-    refused_slices(&mut fresh);
-    damaged();
+    refused_values(&rt, &mut fresh)?;
+    refused_slices(&rt, &mut fresh)?;
+    damaged(&rt)
 }

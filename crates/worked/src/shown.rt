@@ -4,77 +4,74 @@ use answers::{Given, Reply};
 use octets::{Access, Form};
 use requests::{Operation, Request};
 use resources::ResourceRead;
+use std::io;
 use tags::{Key, Memory};
 
 // Of longer data and lists, so many octets and entries are shown.
 const SHOWN: usize = 2;
 
-pub(crate) fn text(s: &[u8]) {
-    io::write_all(libc::STDOUT_FILENO, s);
+pub(crate) fn text(rt: &impl Print, s: &str) -> io::Result<()> {
+    rt.print(s)
 }
 
-pub(crate) fn number(n: usize) {
-    text(b" ");
-    io::print_decimal(libc::STDOUT_FILENO, n as u64);
+pub(crate) fn number(rt: &impl Print, n: usize) -> io::Result<()> {
+    print!(rt; " {n}")
 }
 
-fn pair(octet: u8) {
-    let digits = b"0123456789ABCDEF";
-    let high = (octet / 16) as usize;
-    let low = (octet % 16) as usize;
-    text(&[digits[high], digits[low]]);
+fn pair(rt: &impl Print, octet: u8) -> io::Result<()> {
+    print!(rt; "{octet:02X}")
 }
 
 // Octets in capital hexadecimal.
-pub(crate) fn hexadecimal(s: &[u8]) {
-    let mut i = 0;
-    while i < s.len() {
-        pair(s[i]);
-        i += 1;
+pub(crate) fn hexadecimal(rt: &impl Print, s: &[u8]) -> io::Result<()> {
+    for octet in s {
+        pair(rt, *octet)?;
     }
+    Ok(())
 }
 
 // A tag or a password.
-fn word(x: u64) {
+fn word(rt: &impl Print, x: u64) -> io::Result<()> {
     let mut field = [0; 8];
     octets::write_number(&mut field, 0, octets::Width::Eight, x);
-    text(b" ");
-    hexadecimal(&field);
+    text(rt, " ")?;
+    hexadecimal(rt, &field)
 }
 
 // ---- parts of a message
 
-fn operation(name: &[u8], form: Form) {
-    text(name);
+fn operation(rt: &impl Print, name: &str, form: Form) -> io::Result<()> {
+    text(rt, name)?;
     match form {
-        Form::Plain => text(b" plain"),
-        Form::Password => text(b" password"),
+        Form::Plain => text(rt, " plain"),
+        Form::Password => text(rt, " password"),
     }
 }
 
 // A tag, and its password if there is one.
-fn key(name: &[u8], access: Access, tag: u64) {
-    text(name);
-    word(tag);
+fn key(rt: &impl Print, name: &str, access: Access, tag: u64) -> io::Result<()> {
+    text(rt, name)?;
+    word(rt, tag)?;
     if let Access::Password(password) = access {
-        word(password);
+        word(rt, password)?;
     }
+    Ok(())
 }
 
 // How many octets or entries there are, and where they start.
-fn place(count: usize, start: usize) {
-    number(count);
-    text(b" at");
-    number(start);
-    text(b":");
+fn place(rt: &impl Print, count: usize, start: usize) -> io::Result<()> {
+    number(rt, count)?;
+    text(rt, " at")?;
+    number(rt, start)?;
+    text(rt, ":")
 }
 
 // Data, as the part of the message where it stands.
-fn held(s: &[u8], span: octets::Span) {
+fn held(rt: &impl Print, s: &[u8], span: octets::Span) -> io::Result<()> {
     let start = span.start;
     let len = span.len;
-    place(len, start);
-    hexadecimal(octets::part(octets::part(s, start, len), 0, SHOWN));
+    place(rt, len, start)?;
+    hexadecimal(rt, octets::part(octets::part(s, start, len), 0, SHOWN))
 }
 
 // What a list is of.
@@ -86,152 +83,162 @@ enum Entry {
 }
 
 // Shows the entry at a place, and says where the next one starts.
-fn next_entry(s: &[u8], at: usize, of: Entry) -> usize {
+fn next_entry(rt: &impl Print, s: &[u8], at: usize, of: Entry) -> io::Result<usize> {
     match of {
         Entry::Key(form) => match tags::read_key(s, at, form) {
-            Key::Bad => at,
+            Key::Bad => Ok(at),
             Key::Value { access, tag, next } => {
-                key(b"", access, tag);
-                next
+                key(rt, "", access, tag)?;
+                Ok(next)
             }
         },
         Entry::Memory(form) => match tags::read_memory(s, at, form) {
-            Memory::Bad(_fault) => at,
+            Memory::Bad(_fault) => Ok(at),
             Memory::Value {
                 access,
                 tag,
                 span,
                 next,
             } => {
-                key(b"", access, tag);
-                held(s, span);
-                next
+                key(rt, "", access, tag)?;
+                held(rt, s, span)?;
+                Ok(next)
             }
         },
         Entry::Resource => match resources::read_resource(s, at) {
-            ResourceRead::Bad => at,
+            ResourceRead::Bad => Ok(at),
             ResourceRead::Value { resource, next } => {
-                word(resource.tag);
-                number(resource.mode as usize);
-                number(resource.held as usize);
-                number(resource.size as usize);
-                next
+                word(rt, resource.tag)?;
+                number(rt, resource.mode as usize)?;
+                number(rt, resource.held as usize)?;
+                number(rt, resource.size as usize)?;
+                Ok(next)
             }
         },
     }
 }
 
-fn list(name: &[u8], form: Form, s: &[u8], entries: octets::Entries, of: Entry) {
-    operation(name, form);
-    place(entries.count, entries.start);
+fn list(
+    rt: &impl Print,
+    name: &str,
+    form: Form,
+    s: &[u8],
+    entries: octets::Entries,
+    of: Entry,
+) -> io::Result<()> {
+    operation(rt, name, form)?;
+    place(rt, entries.count, entries.start)?;
     let mut at = entries.start;
-    let mut i = 0;
-    while i < entries.count {
-        if i == SHOWN {
-            return;
-        }
-        at = next_entry(s, at, of);
-        i += 1;
+    for _ in 0..entries.count.min(SHOWN) {
+        at = next_entry(rt, s, at, of)?;
     }
+    Ok(())
 }
 
 // ---- requests
 
-fn request_body(s: &[u8], what: Operation) {
+fn request_body(rt: &impl Print, s: &[u8], what: Operation) -> io::Result<()> {
     match what {
         Operation::Resources(entries) => {
             let plain = Form::Plain;
-            list(b" resources", plain, s, entries, Entry::Key(plain));
+            list(rt, " resources", plain, s, entries, Entry::Key(plain))
         }
         Operation::Allocate(allocation) => {
             let access = allocation.access;
             let initial = allocation.initial;
-            key(b" allocate", access, allocation.tag);
-            number(allocation.mode as usize);
-            number(allocation.size as usize);
-            held(s, initial);
+            key(rt, " allocate", access, allocation.tag)?;
+            number(rt, allocation.mode as usize)?;
+            number(rt, allocation.size as usize)?;
+            held(rt, s, initial)
         }
-        Operation::Free(access, tag) => key(b" free", access, tag),
-        Operation::Read(access, tag) => key(b" read", access, tag),
+        Operation::Free(access, tag) => key(rt, " free", access, tag),
+        Operation::Read(access, tag) => key(rt, " read", access, tag),
         Operation::Write(access, tag, span) => {
-            key(b" write", access, tag);
-            held(s, span);
+            key(rt, " write", access, tag)?;
+            held(rt, s, span)
         }
         Operation::BulkRead(form, entries) => {
-            list(b" bulk-read", form, s, entries, Entry::Key(form));
+            list(rt, " bulk-read", form, s, entries, Entry::Key(form))
         }
         Operation::BulkWrite(form, entries) => {
-            list(b" bulk-write", form, s, entries, Entry::Memory(form));
+            list(rt, " bulk-write", form, s, entries, Entry::Memory(form))
         }
     }
 }
 
 // A line: what octets are as a request, or 16.
-pub(crate) fn request(s: &[u8]) {
+pub(crate) fn request(rt: &impl Print, s: &[u8]) -> io::Result<()> {
     match requests::read_request(s) {
-        Request::Bad(_fault) => text(b" 16"),
+        Request::Bad(_fault) => text(rt, " 16")?,
         Request::Message { version, operation } => {
-            number(version as usize);
-            request_body(s, operation);
+            number(rt, version as usize)?;
+            request_body(rt, s, operation)?;
         }
     }
-    text(b"\n");
+    text(rt, "\n")
 }
 
 // ---- answers
 
 // A tag that was dealt with, plain or with a password.
-fn given(name: &[u8], form: Form, tag: u64) {
-    operation(name, form);
-    word(tag);
+fn given(rt: &impl Print, name: &str, form: Form, tag: u64) -> io::Result<()> {
+    operation(rt, name, form)?;
+    word(rt, tag)
 }
 
-fn answer_body(s: &[u8], what: Given) {
+fn answer_body(rt: &impl Print, s: &[u8], what: Given) -> io::Result<()> {
     match what {
         Given::Resources(room, entries) => {
-            text(b" room");
-            number(room.largest as usize);
-            number(room.tags as usize);
-            number(room.octets as usize);
-            number(room.volatile_tags as usize);
-            number(room.volatile_octets as usize);
-            number(room.entries as usize);
-            list(b" resources", Form::Plain, s, entries, Entry::Resource);
+            text(rt, " room")?;
+            number(rt, room.largest as usize)?;
+            number(rt, room.tags as usize)?;
+            number(rt, room.octets as usize)?;
+            number(rt, room.volatile_tags as usize)?;
+            number(rt, room.volatile_octets as usize)?;
+            number(rt, room.entries as usize)?;
+            list(rt, " resources", Form::Plain, s, entries, Entry::Resource)
         }
-        Given::Allocate(form, tag) => given(b" allocate", form, tag),
-        Given::Free(form, tag) => given(b" free", form, tag),
+        Given::Allocate(form, tag) => given(rt, " allocate", form, tag),
+        Given::Free(form, tag) => given(rt, " free", form, tag),
         Given::Read(form, tag, span) => {
-            given(b" read", form, tag);
-            held(s, span);
+            given(rt, " read", form, tag)?;
+            held(rt, s, span)
         }
-        Given::Write(form, tag) => given(b" write", form, tag),
+        Given::Write(form, tag) => given(rt, " write", form, tag),
         Given::BulkRead(form, entries) => {
-            list(b" bulk-read", form, s, entries, Entry::Memory(Form::Plain));
+            list(
+                rt,
+                " bulk-read",
+                form,
+                s,
+                entries,
+                Entry::Memory(Form::Plain),
+            )
         }
         Given::BulkWrite(form, entries) => {
-            list(b" bulk-write", form, s, entries, Entry::Key(Form::Plain));
+            list(rt, " bulk-write", form, s, entries, Entry::Key(Form::Plain))
         }
     }
 }
 
 // A line: what octets are as an answer or a denial, or 16.
-pub(crate) fn answer(s: &[u8]) {
+pub(crate) fn answer(rt: &impl Print, s: &[u8]) -> io::Result<()> {
     match answers::read_answer(s) {
-        Reply::Bad(_fault) => text(b" 16"),
+        Reply::Bad(_fault) => text(rt, " 16")?,
         Reply::Denied {
             version,
             status,
             supplement,
         } => {
-            number(version as usize);
-            text(b" denied");
-            number(status as usize);
-            held(s, supplement);
+            number(rt, version as usize)?;
+            text(rt, " denied")?;
+            number(rt, status as usize)?;
+            held(rt, s, supplement)?;
         }
         Reply::Accepted { version, given } => {
-            number(version as usize);
-            answer_body(s, given);
+            number(rt, version as usize)?;
+            answer_body(rt, s, given)?;
         }
     }
-    text(b"\n");
+    text(rt, "\n")
 }

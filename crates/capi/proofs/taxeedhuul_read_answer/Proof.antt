@@ -5,7 +5,7 @@ use native.Mathlib.Omega.{arith}
 use lib.ListN.{get_or}
 use borrow.Author.Rules.{rules}
 use Rattle.octets.specs.Area.{refused}
-use Rattle.capi.specs.Result.{result}
+use Rattle.capi.specs.Result.{number_of}
 use Rattle.capi.proofs.Gates.{regives, fault-is, kind-low, kind-first}
 use Rattle.capi.proofs.Results.{read_back}
 use Rattle.capi.proofs.taxeedhuul_read_answer.Statement.{statement}
@@ -55,7 +55,7 @@ fill-requires-2 c κs = search rules
 returns : tie.Need-returns
 returns c =
     let a = c.before.before.before.before.before.before.args in
-    record { reply = c.before.before.before.read_answer.result; understood = c.before.before.before.read_answer.ensures; gives = rw c.before.enum_told.given.1 (record { says = (read_back c.refusal.result c.refusal.type-inv c.refusal.ensures) ∙ ap (λ (n : ℕ). result (refused n)) (sym (fault-is c.before.enum_told.given.0.0)); area = refl }) }
+    record { reply = c.before.before.before.read_answer.result; understood = c.before.before.before.read_answer.ensures; gives = rw c.before.enum_told.given.1 (record { says = (read_back c.refusal.result c.refusal.type-inv c.refusal.ensures) ∙ ap (λ (n : ℕ). number_of (refused n)) (sym (fault-is c.before.enum_told.given.0.0)); area = refl }) }
 
 same_length : tie.Need-same-length
 same_length c = search rules
