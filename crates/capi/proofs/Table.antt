@@ -1,17 +1,15 @@
 -- What is refused before a unit is looked at, the number of each outcome, and the words that the readers put, at their boundaries: tables, each proved by computation.
 use Prim.Native.Nat.{ℕ}
 use mathlib.Core.Path.{◌≡◌, refl}
-use mathlib.Core.Bool.{Bool, true, false}
+use mathlib.Core.Bool.{true, false}
 use mathlib.Core.List.{List, [], ◌∷◌, map}
 use lib.IntN.{ℤ, pos, negsuc}
 use lib.ListN.{replicate}
 use Rattle.octets.specs.Area.{Outcome, done, refused}
-use Rattle.octets.specs.declared.Access.{Access}
 use Rattle.octets.specs.declared.Access.TheVariants.{Plain, Password}
 use Rattle.octets.specs.declared.Entries.{Entries}
 use Rattle.octets.specs.declared.Fault.TheVariants.{Other}
 use Rattle.octets.specs.declared.Form.TheVariants as f
-use Rattle.octets.specs.declared.Port.{Port}
 use Rattle.octets.specs.declared.Port.TheVariants.{Normal, Secure}
 use Rattle.octets.specs.declared.Span.{Span}
 use Rattle.tags.specs.declared.Key.TheVariants as k

@@ -20,7 +20,7 @@ use Rattle.store.specs.Steps.{Step}
 use Rattle.store.proofs.Unique.{shows-unique}
 use Rattle.responder.specs.Respond.{Line, number, none}
 use Rattle.capi.specs.Result.{number_of}
-use Rattle.capi.specs.Slices.{Slices, slices, lent, Holds, Kept}
+use Rattle.capi.specs.Slices.{Slices, lent, Holds, Kept}
 use Rattle.capi.specs.Calls.{barred_by, start_line, port_line, mode_line, Starts, Responds, Fits}
 use Rattle.capi.specs.Gate.{Gives, reply_filled, short, key_filled, memory_filled, resource_filled, ReadsAnswer, ReadsTag, ReadsMemory, ReadsResource}
 use Rattle.capi.proofs.Units.{not_none}

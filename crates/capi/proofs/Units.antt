@@ -31,7 +31,7 @@ use Rattle.responder.specs.Respond.{number, none, respond}
 use Rattle.responder.specs.declared.Reply.{Reply}
 use Rattle.responder.proofs.Kept.{respond-keeps}
 use Rattle.capi.specs.Result.{number_of, judged, worded}
-use Rattle.capi.specs.Slices.{Slices, slices, lent, head_words, Holds}
+use Rattle.capi.specs.Slices.{Slices, lent, head_words, Holds}
 use Rattle.capi.specs.Calls.{port_of, barred_by, start_line, port_line, mode_line, Starts, Answers, Responds, Does, Fits}
 
 -- ---- the lines before a unit is looked at
