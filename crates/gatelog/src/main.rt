@@ -128,7 +128,7 @@ fn go_on(
     requires sound { Sound place.head table.old pool.old }
     requires within { Within place input.old out.old }
     requires roomy { Roomy input.old out.old }
-    ensures sound_2 { Sound result.head table.new pool.new × Within result input.new out.new }
+    ensures kept { Sound result.head table.new pool.new × Within result input.new out.new }
     ensures turn_taken { (u : State) → Shows u place.head table.old pool.old
         → TurnTaken (step_out u place.answered place.last (at_hand place input.old) out.old place.filled) place result
         input.old input.new out.new table.new pool.new }
@@ -186,7 +186,7 @@ fn run(
 )
     requires shows { Shows first_unit head table.old pool.old }
     requires roomy { Roomy input.old out.old }
-    requires enough_turns_le_turns { enough_turns ≤ turns }
+    requires turns_enough { enough_turns ≤ turns }
 {
     let mut place = first_place(head);
     while turns > 0 && place.going {

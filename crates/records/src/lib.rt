@@ -243,7 +243,7 @@ fn answer(
     at: usize,
 ) -> Outcome
     requires sound { Sound head table.old pool.old }
-    requires at_in_bounds { (at + 4108 ≤ length out.old) × (length request.now ≤ 2048) }
+    requires room { (at + 4108 ≤ length out.old) × (length request.now ≤ 2048) }
     ensures { (u : State) (last : Bool) (s : List ℕ) → Shows u head table.old pool.old
         → Stepped (out_of u out.old at (turned_by u answered last (whole port request.now s))) result out.new table.new pool.new }
 {
@@ -274,7 +274,7 @@ fn take_turn(
     at: usize,
 ) -> Outcome
     requires sound { Sound head table.old pool.old }
-    requires at_in_bounds { at + 4108 ≤ length out.old }
+    requires room { at + 4108 ≤ length out.old }
     ensures { (u : State) → Shows u head table.old pool.old
         → Stepped (out_of u out.old at (turn u answered last octets.now)) result out.new table.new pool.new }
 {

@@ -188,7 +188,7 @@ fn serve_free(
     answer: &mut [u8],
 ) -> Reply
     requires sound { Sound head table.old pool.old }
-    requires in_bounds { 2048 ≤ length answer.old }
+    requires room { 2048 ≤ length answer.old }
     ensures { (u : State) → Shows u head table.old pool.old
         → Serves (free_done u port (form_of access) (tag, access)) result answer.old answer.new table.new pool.new }
 {
@@ -223,7 +223,7 @@ fn serve_write(
     answer: &mut [u8],
 ) -> Sent
     requires sound { Sound head table.old pool.old }
-    requires in_bounds { 2048 ≤ length answer.old }
+    requires room { 2048 ≤ length answer.old }
     ensures { (u : State) → Shows u head table.old pool.old
         → Serves (write_done u port (form_of access) ((tag, access), src.now)) (record { head = head; sent = result }) answer.old answer.new table.new pool.new }
 {
@@ -248,7 +248,7 @@ fn serve_read(
     answer: &mut [u8],
 ) -> Sent
     requires sound { Sound head table.now pool.now }
-    requires in_bounds { 2048 ≤ length answer.old }
+    requires room { 2048 ≤ length answer.old }
     ensures { (u : State) → Shows u head table.now pool.now
         → Sends (read_done u port (form_of access) (tag, access)).reply result answer.old answer.new }
 {
@@ -350,7 +350,7 @@ fn tell_each(
     held: &mut [u32],
     sizes: &mut [u32],
 ) -> usize
-    requires count_in_bounds { (list.count ≤ length tags.old) × (list.count ≤ length modes.old) × (list.count ≤ length held.old) × (list.count ≤ length sizes.old) }
+    requires room { (list.count ≤ length tags.old) × (list.count ≤ length modes.old) × (list.count ≤ length held.old) × (list.count ≤ length sizes.old) }
     requires list_ends { ListEnds (key Form.Plain) s.now list }
     ensures { (result ≤ list.count) × ((u : State) (pool : List ℕ) → Shows u head table.now pool
         → resources_of (take result tags.new) (take result modes.new) (take result held.new) (take result sizes.new) ≡ all_told u [] (entries_in (key Form.Plain) s.now list)) }
@@ -376,7 +376,7 @@ fn tell_each(
 }
 
 fn serve_resources(head: Head, table: &[u64], s: &[u8], list: Entries, answer: &mut [u8]) -> Sent
-    requires version_bound { (head.version ≤ 15) × (list.count ≤ 16) × (2048 ≤ length answer.old) }
+    requires room { (head.version ≤ 15) × (list.count ≤ 16) × (2048 ≤ length answer.old) }
     requires list_ends { ListEnds (key Form.Plain) s.now list }
     ensures { (u : State) (pool : List ℕ) → Shows u head table.now pool
         → Sends (resources_done u (entries_in (key Form.Plain) s.now list)).reply result answer.old answer.new }
@@ -453,7 +453,7 @@ fn choose_each(
     starts: &mut [usize],
     lengths: &mut [usize],
 ) -> usize
-    requires count_bound { (list.count ≤ 16) × (list.count ≤ length tags.old) × (list.count ≤ length starts.old) × (list.count ≤ length lengths.old) }
+    requires room { (list.count ≤ 16) × (list.count ≤ length tags.old) × (list.count ≤ length starts.old) × (list.count ≤ length lengths.old) }
     requires list_ends { ListEnds (key form) s.now list }
     ensures { (result ≤ list.count) × ((u : State) (pool : List ℕ) → Shows u head table.now pool
         → (every (inside_at (take result starts.new) (take result lengths.new) pool) result ≡ true)
@@ -485,7 +485,7 @@ fn bulk_read(
     answer: &mut [u8],
 ) -> Sent
     requires sound { Sound head table.now pool.now }
-    requires count_bound { (list.count ≤ 16) × (2048 ≤ length answer.old) }
+    requires room { (list.count ≤ 16) × (2048 ≤ length answer.old) }
     requires list_ends { ListEnds (key form) s.now list }
     ensures { (u : State) → Shows u head table.now pool.now
         → Sends (bulk_read_done u port form (entries_in (key form) s.now list)).reply result answer.old answer.new }
@@ -543,7 +543,7 @@ fn write_each(
     names: &mut [u64],
 ) -> usize
     requires sound { Sound head table.old pool.old }
-    requires count_in_bounds { list.count ≤ length names.old }
+    requires room { list.count ≤ length names.old }
     requires list_ends { ListEnds (memory form) s.now list }
     ensures { (result ≤ list.count) × ((u : State) → Shows u head table.old pool.old
         → (keys_of Form.Plain (take result names.exit.now) [] ≡ (all_writes port (record { names = []; unit = u }) (entries_in (memory form) s.now list)).names)
@@ -582,7 +582,7 @@ fn bulk_write(
     answer: &mut [u8],
 ) -> Sent
     requires sound { Sound head table.old pool.old }
-    requires count_bound { (list.count ≤ 16) × (2048 ≤ length answer.old) }
+    requires room { (list.count ≤ 16) × (2048 ≤ length answer.old) }
     requires list_ends { ListEnds (memory form) s.now list }
     ensures { (u : State) → Shows u head table.old pool.old
         → Serves (bulk_write_done u port form (entries_in (memory form) s.now list)) (record { head = head; sent = result }) answer.old answer.new table.new pool.new }
@@ -619,7 +619,7 @@ fn perform(
     answer: &mut [u8],
 ) -> Reply
     requires sound { Sound head table.old pool.old }
-    requires in_bounds { 2048 ≤ length answer.old }
+    requires room { 2048 ≤ length answer.old }
     requires operation_place { OperationPlace s.now operation }
     ensures { (u : State) (version : ℕ) → Shows u head table.old pool.old
         → Serves (served u port (message (record { version = version; kind = operation_kind operation; body = operation_body s.now operation }))) result answer.old answer.new table.new pool.new }

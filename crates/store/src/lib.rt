@@ -252,7 +252,7 @@ fn close(pool: &mut [u8], at: usize, n: usize, end: usize)
 // The tag in a row goes, with its area.
 fn remove(head: Head, table: &mut [u64], pool: &mut [u8], row: usize, slot: Slot) -> Head
     requires sound { Sound head table.old pool.old }
-    requires row_lt_count { (row < head.count) × (slot ≡ slot_at table.old row) }
+    requires row_there { (row < head.count) × (slot ≡ slot_at table.old row) }
     ensures { (u : State) → Shows u head table.old pool.old
         → Shows (holding u (without tag_id (slot_tag slot) u.tags)) result table.new pool.new }
 {

@@ -48,8 +48,8 @@ write_out-requires-in-Ended g c =
     let l = rw c.in-Ended.is at (step-learns s.unit _ _ _ _ _ _ _ _ _ (c.step-step.ensures s.unit s.shown) c.step-step.auto.out) in
     omega (arith, l, c.step-step.auto.out)
 
-pub returns-in-Answered-clause-sound_2 : goal.returns-in-Answered-clause-sound_2
-returns-in-Answered-clause-sound_2 g c =
+pub returns-in-Answered-clause-kept : goal.returns-in-Answered-clause-kept
+returns-in-Answered-clause-kept g c =
     let s = c.requires.sound in
     let p = c.args.place in
     let d = c.step-step.ensures s.unit s.shown in

@@ -10,7 +10,7 @@ pub returns-then-out-at-lt-LINE : goal.returns-then-out-at-lt-LINE
 returns-then-out-at-lt-LINE c = λ u v. steps-not u c.args.answered c.args.last c.args.octets.now c.args.out.now c.args.at (omega arith) v
 
 pub take_turn-requires : goal.take_turn-requires
-take_turn-requires c = record { sound = c.requires; at_in_bounds = omega arith }
+take_turn-requires c = record { sound = c.requires; room = omega arith }
 
 pub shape_of-table : goal.shape_of-table
 shape_of-table c = c.take_turn.auto.table

@@ -10,17 +10,17 @@ use Rattle.records.proofs.Steps.{turns, turns-closed}
 use Rattle.records.proofs.take_turn.Goals as goal
 
 pub end-requires : goal.end-requires
-end-requires c = omega (arith, c.requires.at_in_bounds)
+end-requires c = omega (arith, c.requires.room)
 
 pub stop-requires : goal.stop-requires
-stop-requires c = omega (arith, c.requires.at_in_bounds)
+stop-requires c = omega (arith, c.requires.room)
 
 pub stop-requires-in-Cut : goal.stop-requires-in-Cut
-stop-requires-in-Cut c = omega (arith, c.requires.at_in_bounds)
+stop-requires-in-Cut c = omega (arith, c.requires.room)
 
 pub answer-requires : goal.answer-requires
 answer-requires c = let e = rw c.in-Whole.is at c.look.ensures in
-    record { sound = c.requires.sound; at_in_bounds = (c.requires.at_in_bounds, rw (c.part-request.ensures, length-take c.in-Whole.len (drop 5 c.args.octets.now)) (omega (arith, e.1.1))) }
+    record { sound = c.requires.sound; room = (c.requires.room, rw (c.part-request.ensures, length-take c.in-Whole.len (drop 5 c.args.octets.now)) (omega (arith, e.1.1))) }
 
 pub shape_of-out-in-Nothing : goal.shape_of-out-in-Nothing
 shape_of-out-in-Nothing c = c.end.auto.out

@@ -16,5 +16,5 @@ returns c = λ u s.
     let q : c.write_each-k.result - 0 ≡ c.write_each-k.result = omega arith in
     let l = list-whole (memory c.args.form) (memory-lawful c.args.form) c.args.s.now c.args.list o c.requires.list_ends in
     let hs = entries_in (memory c.args.form) c.args.s.now c.args.list in
-    let f = bulk-write-fine u c.args.port c.args.form s.valid hs (helds-low c.args.form hs l.0) (omega (arith, l.1, c.requires.count_bound.0)) in
-    writes-served u _ _ _ _ _ _ _ _ _ _ _ _ _ s (c.write_each-k.ensures.1 u s) f c.requires.count_bound.1 (rw q at c.write_bulk_write.ensures) c.told.ensures
+    let f = bulk-write-fine u c.args.port c.args.form s.valid hs (helds-low c.args.form hs l.0) (omega (arith, l.1, c.requires.room.0)) in
+    writes-served u _ _ _ _ _ _ _ _ _ _ _ _ _ s (c.write_each-k.ensures.1 u s) f c.requires.room.1 (rw q at c.write_bulk_write.ensures) c.told.ensures

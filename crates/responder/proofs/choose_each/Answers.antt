@@ -28,10 +28,10 @@ returns-in_default c =
 
 pub choose-chosen-requires : goal.choose-chosen-requires
 choose-chosen-requires c =
-    (omega (arith, c.loop-i-test.true, c.loop-i.invariant.few, c.loop-i.invariant.tags-as-long, c.requires.count_bound.1), omega (arith, c.loop-i-test.true, c.loop-i.invariant.few, c.loop-i.invariant.starts-as-long, c.requires.count_bound.2), omega (arith, c.loop-i-test.true, c.loop-i.invariant.few, c.loop-i.invariant.lengths-as-long, c.requires.count_bound.3), omega (arith, c.loop-i-test.true, c.loop-i.invariant.few, c.requires.count_bound.0), c.loop-i.invariant.small)
+    (omega (arith, c.loop-i-test.true, c.loop-i.invariant.few, c.loop-i.invariant.tags-as-long, c.requires.room.1), omega (arith, c.loop-i-test.true, c.loop-i.invariant.few, c.loop-i.invariant.starts-as-long, c.requires.room.2), omega (arith, c.loop-i-test.true, c.loop-i.invariant.few, c.loop-i.invariant.lengths-as-long, c.requires.room.3), omega (arith, c.loop-i-test.true, c.loop-i.invariant.few, c.requires.room.0), c.loop-i.invariant.small)
 
 pub overflow_add-i : goal.overflow_add-i
-overflow_add-i c = omega (arith, c.loop-i-test.true, c.requires.count_bound.0)
+overflow_add-i c = omega (arith, c.loop-i-test.true, c.requires.room.0)
 
 pub loop-i-preserved : goal.loop-i-preserved
 loop-i-preserved c =

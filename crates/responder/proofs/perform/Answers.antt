@@ -10,7 +10,7 @@ use Rattle.responder.proofs.Shown.{read_left}
 use Rattle.responder.proofs.perform.Goals as goal
 
 pub deny-requires : goal.deny-requires
-deny-requires c = (sound-version _ _ _ c.requires.sound, c.requires.in_bounds)
+deny-requires c = (sound-version _ _ _ c.requires.sound, c.requires.room)
 
 pub returns-then-head-entry_count : goal.returns-then-head-entry_count
 returns-then-head-entry_count c = λ u v s.
@@ -20,18 +20,18 @@ returns-then-head-entry_count c = λ u v s.
 
 pub serve_resources-requires : goal.serve_resources-requires
 serve_resources-requires c = let e = rw c.in-Resources.is at c.entry_count.ensures in
-    record { version_bound = (sound-version _ _ _ c.requires.sound, omega (arith, e, c.if-head-entry_count.false, sound-list _ _ _ c.requires.sound), c.requires.in_bounds); list_ends = rw c.in-Resources.is at c.requires.operation_place }
+    record { room = (sound-version _ _ _ c.requires.sound, omega (arith, e, c.if-head-entry_count.false, sound-list _ _ _ c.requires.sound), c.requires.room); list_ends = rw c.in-Resources.is at c.requires.operation_place }
 
 pub serve_allocate-requires : goal.serve_allocate-requires
-serve_allocate-requires c = (sound-version _ _ _ c.requires.sound, c.requires.in_bounds)
+serve_allocate-requires c = (sound-version _ _ _ c.requires.sound, c.requires.room)
 
 pub bulk_read-requires : goal.bulk_read-requires
 bulk_read-requires c = let e = rw c.in-BulkRead.is at c.entry_count.ensures in
-    record { sound = c.requires.sound; count_bound = (omega (arith, e, c.if-head-entry_count.false, sound-list _ _ _ c.requires.sound), c.requires.in_bounds); list_ends = rw c.in-BulkRead.is at c.requires.operation_place }
+    record { sound = c.requires.sound; room = (omega (arith, e, c.if-head-entry_count.false, sound-list _ _ _ c.requires.sound), c.requires.room); list_ends = rw c.in-BulkRead.is at c.requires.operation_place }
 
 pub bulk_write-requires : goal.bulk_write-requires
 bulk_write-requires c = let e = rw c.in-BulkWrite.is at c.entry_count.ensures in
-    record { sound = c.requires.sound; count_bound = (omega (arith, e, c.if-head-entry_count.false, sound-list _ _ _ c.requires.sound), c.requires.in_bounds); list_ends = rw c.in-BulkWrite.is at c.requires.operation_place }
+    record { sound = c.requires.sound; room = (omega (arith, e, c.if-head-entry_count.false, sound-list _ _ _ c.requires.sound), c.requires.room); list_ends = rw c.in-BulkWrite.is at c.requires.operation_place }
 
 pub returns-in-Resources : goal.returns-in-Resources
 unfolding act resources_done

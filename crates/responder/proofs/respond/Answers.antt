@@ -18,7 +18,7 @@ deny-requires-in-Bad c = (sound-version _ _ _ c.requires, omega (arith, c.if-ans
 
 pub perform-requires : goal.perform-requires
 perform-requires c = let e = rw c.in-Message.is at c.read_request.ensures in
-    record { sound = c.requires; in_bounds = omega (arith, c.if-answer-head.false, sound-message _ _ _ c.requires); operation_place = e.place.1 }
+    record { sound = c.requires; room = omega (arith, c.if-answer-head.false, sound-message _ _ _ c.requires); operation_place = e.place.1 }
 
 pub returns-in-Denied : goal.returns-in-Denied
 returns-in-Denied c = λ u s.

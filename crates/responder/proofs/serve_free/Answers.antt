@@ -6,7 +6,7 @@ use Rattle.tags.specs.Entry.{form_of}
 use Rattle.responder.proofs.serve_free.Goals as goal
 
 pub deny-requires : goal.deny-requires
-deny-requires c = (sound-version _ _ _ c.requires.sound, c.requires.in_bounds)
+deny-requires c = (sound-version _ _ _ c.requires.sound, c.requires.room)
 
 pub returns-in-Denied : goal.returns-in-Denied
 unfolding free_done
@@ -17,4 +17,4 @@ unfolding free_done
 returns-in-Allowed c = λ u s.
     let y = rw (c.form_of-form.ensures.0, c.bare_tag-bare.ensures) at c.write_free-written.ensures in
     let f = wr.free-writable _ (form_of c.args.access) c.args.tag (sound-version _ _ _ c.requires.sound) c.ranges.tag.fits in
-    serves-done u _ _ _ _ _ _ _ _ s (form_of c.args.access) (b.free (named c.args.tag)) _ _ _ (c.free-outcome.ensures u s) _ c.in-Allowed.is f c.requires.in_bounds y c.told.ensures
+    serves-done u _ _ _ _ _ _ _ _ s (form_of c.args.access) (b.free (named c.args.tag)) _ _ _ (c.free-outcome.ensures u s) _ c.in-Allowed.is f c.requires.room y c.told.ensures

@@ -7,7 +7,7 @@ use Rattle.responder.proofs.Shown.{read-denied, read-done}
 use Rattle.responder.proofs.serve_read.Goals as goal
 
 pub deny-requires : goal.deny-requires
-deny-requires c = (sound-version _ _ _ c.requires.sound, c.requires.in_bounds)
+deny-requires c = (sound-version _ _ _ c.requires.sound, c.requires.room)
 
 pub overflow_add-end : goal.overflow_add-end
 overflow_add-end c =
@@ -26,4 +26,4 @@ pub returns-in-Data : goal.returns-in-Data
 returns-in-Data c =
     λ u d.
     let q : c.in-Data.span.start + c.in-Data.span.len - c.in-Data.span.start ≡ c.in-Data.span.len = omega arith in
-    read-done u _ _ _ d _ _ _ _ _ (c.read-held.ensures u _ d) _ _ _ c.in-Data.span _ _ _ _ c.in-Data.is c.form_of-form.ensures.0 c.bare_tag-bare.ensures (ap (λ (n : ℕ). take n (drop c.in-Data.span.start c.args.pool.now)) q) c.ranges.tag.fits c.requires.in_bounds c.write_read.ensures c.told.ensures
+    read-done u _ _ _ d _ _ _ _ _ (c.read-held.ensures u _ d) _ _ _ c.in-Data.span _ _ _ _ c.in-Data.is c.form_of-form.ensures.0 c.bare_tag-bare.ensures (ap (λ (n : ℕ). take n (drop c.in-Data.span.start c.args.pool.now)) q) c.ranges.tag.fits c.requires.room c.write_read.ensures c.told.ensures

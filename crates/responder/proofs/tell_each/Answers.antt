@@ -29,10 +29,10 @@ returns-in_default c =
 
 pub tell-k-requires : goal.tell-k-requires
 tell-k-requires c =
-    (omega (arith, c.loop-i-test.true, c.loop-i.invariant.few, c.loop-i.invariant.tags-as-long, c.requires.count_in_bounds.0), omega (arith, c.loop-i-test.true, c.loop-i.invariant.few, c.loop-i.invariant.modes-as-long, c.requires.count_in_bounds.1), omega (arith, c.loop-i-test.true, c.loop-i.invariant.few, c.loop-i.invariant.held-as-long, c.requires.count_in_bounds.2), omega (arith, c.loop-i-test.true, c.loop-i.invariant.few, c.loop-i.invariant.sizes-as-long, c.requires.count_in_bounds.3))
+    (omega (arith, c.loop-i-test.true, c.loop-i.invariant.few, c.loop-i.invariant.tags-as-long, c.requires.room.0), omega (arith, c.loop-i-test.true, c.loop-i.invariant.few, c.loop-i.invariant.modes-as-long, c.requires.room.1), omega (arith, c.loop-i-test.true, c.loop-i.invariant.few, c.loop-i.invariant.held-as-long, c.requires.room.2), omega (arith, c.loop-i-test.true, c.loop-i.invariant.few, c.loop-i.invariant.sizes-as-long, c.requires.room.3))
 
 pub overflow_add-i : goal.overflow_add-i
-overflow_add-i c = omega (arith, c.loop-i-test.true, c.requires.count_in_bounds.0)
+overflow_add-i c = omega (arith, c.loop-i-test.true, c.requires.room.0)
 
 pub loop-i-preserved : goal.loop-i-preserved
 loop-i-preserved c =

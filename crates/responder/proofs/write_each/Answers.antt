@@ -39,10 +39,10 @@ pub write-verdict-requires : goal.write-verdict-requires
 write-verdict-requires c = c.loop-i.invariant.sound
 
 pub note-k-requires : goal.note-k-requires
-note-k-requires c = omega (arith, c.loop-i.invariant.few, c.loop-i.invariant.names-long, c.requires.count_in_bounds)
+note-k-requires c = omega (arith, c.loop-i.invariant.few, c.loop-i.invariant.names-long, c.requires.room)
 
 pub overflow_add-i : goal.overflow_add-i
-overflow_add-i c = omega (arith, c.requires.count_in_bounds)
+overflow_add-i c = omega (arith, c.requires.room)
 
 pub loop-i-preserved : goal.loop-i-preserved
 loop-i-preserved c = let h : c.loop-i.i < c.args.list.count = omega arith in

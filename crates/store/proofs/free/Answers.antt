@@ -7,7 +7,7 @@ use Rattle.store.proofs.free.Goals as goal
 pub remove-requires : goal.remove-requires
 remove-requires c = record {
   sound = c.requires;
-  row_lt_count = ((States.row-found c.requires.unit _ _ _ c.requires.shown _ _ (sym c.find_row-row.ensures ∙ c.in-At.is)).0, c.get_slot-slot.ensures);
+  row_there = ((States.row-found c.requires.unit _ _ _ c.requires.shown _ _ (sym c.find_row-row.ensures ∙ c.in-At.is)).0, c.get_slot-slot.ensures);
 }
 
 pub returns-in-Nothing : goal.returns-in-Nothing

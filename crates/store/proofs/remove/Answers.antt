@@ -9,12 +9,12 @@ use Rattle.store.proofs.States
 use Rattle.store.proofs.remove.Goals as goal
 
 pub close-requires : goal.close-requires
-close-requires c = (let fact : (c.args.slot.at + c.args.slot.about.size ≤ c.args.head.used) × (c.args.head.used ≤ length c.args.pool.now) = rw c.requires.row_lt_count.1 (States.within-used _ _ _ _ c.requires.sound.shown _ c.requires.row_lt_count.0, States.used-there _ _ _ _ c.requires.sound.shown) in fact)
+close-requires c = (let fact : (c.args.slot.at + c.args.slot.about.size ≤ c.args.head.used) × (c.args.head.used ≤ length c.args.pool.now) = rw c.requires.row_there.1 (States.within-used _ _ _ _ c.requires.sound.shown _ c.requires.row_there.0, States.used-there _ _ _ _ c.requires.sound.shown) in fact)
 
 pub overflow_sub-result-2 : goal.overflow_sub-result-2
-overflow_sub-result-2 c = omega (arith, ((let fact : (c.args.slot.at + c.args.slot.about.size ≤ c.args.head.used) × (c.args.head.used ≤ length c.args.pool.now) = rw c.requires.row_lt_count.1 (States.within-used _ _ _ _ c.requires.sound.shown _ c.requires.row_lt_count.0, States.used-there _ _ _ _ c.requires.sound.shown) in fact)).0)
+overflow_sub-result-2 c = omega (arith, ((let fact : (c.args.slot.at + c.args.slot.about.size ≤ c.args.head.used) × (c.args.head.used ≤ length c.args.pool.now) = rw c.requires.row_there.1 (States.within-used _ _ _ _ c.requires.sound.shown _ c.requires.row_there.0, States.used-there _ _ _ _ c.requires.sound.shown) in fact)).0)
 
 pub returns : goal.returns
 returns c = λ u s.
-    rw (ap slot_tag c.requires.row_lt_count.1) (States.remove-shows u _ _ _ s c.args.row _ _ _ c.requires.row_lt_count.0 (ap (λ (q : Slot). States.head_without c.args.head q.about.size) c.requires.row_lt_count.1)
-    c.remove_row.ensures (c.close.ensures ∙ ap (λ (q : Slot). closed c.args.pool.now q.at q.about.size c.args.head.used) c.requires.row_lt_count.1))
+    rw (ap slot_tag c.requires.row_there.1) (States.remove-shows u _ _ _ s c.args.row _ _ _ c.requires.row_there.0 (ap (λ (q : Slot). States.head_without c.args.head q.about.size) c.requires.row_there.1)
+    c.remove_row.ensures (c.close.ensures ∙ ap (λ (q : Slot). closed c.args.pool.now q.at q.about.size c.args.head.used) c.requires.row_there.1))
