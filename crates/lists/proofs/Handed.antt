@@ -21,7 +21,7 @@ use Rattle.octets.proofs.Lists.{wrote-entry, put_next, put_mono, put-many, put-e
 use Rattle.octets.proofs.Sends.{sent-long, described-not}
 use Rattle.tags.specs.Entry.{form_of, lock_size, lock, Keyed, Held, key, memory}
 use Rattle.tags.proofs.Entries.{length-key, length-memory, key_fits, memory-fits}
-use Rattle.lists.specs.Handed.{agrees, access_at, key_at, keys_of, held_at, held_of, inside_at, belong, keys_sent, memories_sent, measured}
+use Rattle.lists.specs.Handed.{agrees, access_at, key_at, keys_of, held_at, held_of, inside_at, belong, keys_sent, memories_sent, Measured}
 use Rattle.lists.specs.declared.Measure.TheVariants as m
 use Rattle.lists.proofs.Lists.{Ready, list_length}
 
@@ -128,7 +128,7 @@ module _ (w : Form) (ts ps ss ls s : List ℕ) where
     unfolding belong
     together b g = rw (t, eq-eqb _ _ e, eq-eqb _ _ f, g)
 
-    pub memories-ready : {a b : ℕ} → Words ts → Words ps → a ≡ length (encode_length (length ts)) → measured w ts ps ss ls s (length ts) (m.Octets b)
+    pub memories-ready : {a b : ℕ} → Words ts → Words ps → a ≡ length (encode_length (length ts)) → Measured w ts ps ss ls s (length ts) (m.Octets b)
         → Ready (memory w) (held_at w ts ps ss ls s) (length ts) (belong w ts ps ss ls s) (a + b)
     memories-ready o u x z =
         let r : length (put_all (memory w) (held_of w ts ps ss ls s)) ≤ 2048 = rw (← z.2) z.1 in
@@ -139,7 +139,7 @@ module _ (w : Form) (ts ps ss ls s : List ℕ) where
           long = rw (x, z.2, list_length (memory w) (held_at w ts ps ss ls s) (length ts));
         }
 
-    pub unmeasured : (v k : ℕ) (old : List ℕ) → measured w ts ps ss ls s (length ts) m.Refused → Does (memories_sent w v k ts ps ss ls s old) Refused old
+    pub unmeasured : (v k : ℕ) (old : List ℕ) → Measured w ts ps ss ls s (length ts) m.Refused → Does (memories_sent w v k ts ps ss ls s old) Refused old
     unfolding memories_sent
     unmeasured v k old (inl g) = described-not _ _ old (together false g)
     unmeasured v k old (inr g) = described-refused (belong w ts ps ss ls s) _ old (sent-long (list_of (memory w)) v k (held_of w ts ps ss ls s) old (omega (arith, list_length (memory w) (held_at w ts ps ss ls s) (length ts))))

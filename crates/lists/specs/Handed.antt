@@ -58,8 +58,8 @@ memories_sent w version kind tags passwords starts lengths octets old =
     described (belong w tags passwords starts lengths octets) (sent (list_of (memory w)) version kind (held_of w tags passwords starts lengths octets) old) old
 
 -- what a list of memory data will take, if all its parts lie within the octets and it is not over 2,048 already
-abbrev pub measured : Form → List ℕ → List ℕ → List ℕ → List ℕ → List ℕ → ℕ → Measure → Type 0
-measured w tags passwords starts lengths octets n (e.Octets size) =
+abbrev pub Measured : Form → List ℕ → List ℕ → List ℕ → List ℕ → List ℕ → ℕ → Measure → Type 0
+Measured w tags passwords starts lengths octets n (e.Octets size) =
     (every (inside_at starts lengths octets) n ≡ true) × (size ≤ 2048) × (size ≡ length (put_all (memory w) (listed (held_at w tags passwords starts lengths octets) n)))
-measured w tags passwords starts lengths octets n e.Refused =
+Measured w tags passwords starts lengths octets n e.Refused =
     (every (inside_at starts lengths octets) n ≡ false) ⊎ (2048 < length (put_all (memory w) (listed (held_at w tags passwords starts lengths octets) n)))

@@ -7,7 +7,7 @@ ghost use Rattle.octets.specs.Layout.{put_all};
 ghost use Rattle.octets.specs.Area.{Does, Wrote};
 ghost use Rattle.tags.specs.Entry.{key, memory};
 ghost use Rattle.octets.specs.View.{ListAt, Walked};
-ghost use Rattle.lists.specs.Handed.{agrees, access_at, keys_of, held_of, keys_sent, memories_sent, measured};
+ghost use Rattle.lists.specs.Handed.{agrees, access_at, keys_of, held_of, keys_sent, memories_sent, Measured};
 
 use octets::{Access, Entries, Fault, Form, Length, Listing, Written};
 use tags::Memory;
@@ -146,7 +146,7 @@ fn sum_memories(
     src: &[u8],
 ) -> Measure
     requires { (length starts.now ≡ length tags.now) × (length lengths.now ≡ length tags.now) }
-    ensures { measured form tags.now passwords.now starts.now lengths.now src.now (length tags.now) result }
+    ensures { Measured form tags.now passwords.now starts.now lengths.now src.now (length tags.now) result }
 {
     let mut size = 0;
     let mut i = 0;

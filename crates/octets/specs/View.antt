@@ -115,16 +115,16 @@ module _ {A : Type 0} (L : Layout A) where
   list_in s (t.Bad f) = bad f
 
   -- entries and next place lie within s, and the entries end there
-  abbrev pub list_place : List ℕ → Listing → Type 0
-  list_place s (t.Value x next) = (x.start ≤ length s) × (next ≤ length s) × (forget (entries L x.count (drop x.start s)) ≡ ok tt (drop next s))
-  list_place s (t.Bad f) = Unit {0}
+  abbrev pub ListPlace : List ℕ → Listing → Type 0
+  ListPlace s (t.Value x next) = (x.start ≤ length s) × (next ≤ length s) × (forget (entries L x.count (drop x.start s)) ≡ ok tt (drop next s))
+  ListPlace s (t.Bad f) = Unit {0}
 
 -- what reading a list at a place answers: its count, and as many entries
 pub record ListAt {A : Type 0} (L : Layout A) (s : List ℕ) (at : ℕ) (r : Listing) : Type 0 where
   pub says : list_in L s r ≡ (list_of L).get (drop at s)
-  pub place : list_place L s r
+  pub place : ListPlace L s r
 
 -- the entries from a place on, gone over: what is read as a list behind its count
 pub record Walked {A : Type 0} (L : Layout A) (s : List ℕ) (start count : ℕ) (r : Listing) : Type 0 where
   pub says : list_in L s r ≡ entries L count (drop start s)
-  pub place : list_place L s r
+  pub place : ListPlace L s r

@@ -376,7 +376,7 @@ fn tell_each(
 }
 
 fn serve_resources(head: Head, table: &[u64], s: &[u8], list: Entries, answer: &mut [u8]) -> Sent
-    requires room { (head.version ≤ 15) × (list.count ≤ 16) × (2048 ≤ length answer.old) }
+    requires limits { (head.version ≤ 15) × (list.count ≤ 16) × (2048 ≤ length answer.old) }
     requires list_ends { ListEnds (key Form.Plain) s.now list }
     ensures { (u : State) (pool : List ℕ) → Shows u head table.now pool
         → Sends (resources_done u (entries_in (key Form.Plain) s.now list)).reply result answer.old answer.new }
@@ -546,7 +546,7 @@ fn write_each(
     requires room { list.count ≤ length names.old }
     requires list_ends { ListEnds (memory form) s.now list }
     ensures { (result ≤ list.count) × ((u : State) → Shows u head table.old pool.old
-        → (keys_of Form.Plain (take result names.exit.now) [] ≡ (all_writes port (record { names = []; unit = u }) (entries_in (memory form) s.now list)).names)
+        → (keys_of Form.Plain (take result names.new) [] ≡ (all_writes port (record { names = []; unit = u }) (entries_in (memory form) s.now list)).names)
         × Shows (all_writes port (record { names = []; unit = u }) (entries_in (memory form) s.now list)).unit head table.new pool.new) }
 {
     let mut at = list.start;

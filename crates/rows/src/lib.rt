@@ -7,7 +7,7 @@ ghost use Rattle.std.specs.Prelude.{◌≡◌, ◌+◌, ◌-◌, ◌*◌, ◌≤
 ghost use Rattle.std.proofs.lemmas.List.Edits.{sets};
 ghost use Rattle.octets.specs.Number.{bare};
 ghost use Rattle.octets.specs.Area.{laid};
-ghost use Rattle.rows.specs.Row.{empty as emptySlot, lock_word, password_word, words, lock_of, slot_at, with_held, rows_in, scan, low, sunk, removed};
+ghost use Rattle.rows.specs.Row.{empty as empty_slot, lock_word, password_word, words, lock_of, slot_at, with_held, rows_in, scan, low, sunk, removed};
 
 use admission::{Attributes, Mode};
 use octets::Access;
@@ -79,7 +79,7 @@ fn password_word(lock: Access) -> u64
 }
 
 fn empty() -> Slot
-    ensures { result ≡ emptySlot }
+    ensures { result ≡ empty_slot }
 {
     Slot {
         about: Attributes {

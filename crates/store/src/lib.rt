@@ -12,7 +12,7 @@ ghost use Rattle.rows.specs.Image.{closed};
 ghost use Rattle.rows.specs.Keyed.{without};
 ghost use Rattle.rows.specs.Row.{words, slot_at, slot_tag, with_held};
 ghost use Rattle.store.specs.Model.{State, tag_id, holding, first_kind, Shows, Sound};
-ghost use Rattle.store.specs.Steps.{write_step, free_step, allocate_step, fit_step, registered, remainder as remainderOf};
+ghost use Rattle.store.specs.Steps.{write_step, free_step, allocate_step, fit_step, registered, remainder as remainder_of};
 ghost use Rattle.store.specs.Answers.{begun, started, Did, found, ReadOf};
 ghost use Rattle.store.specs.Raw.{row_of, known_at, overwritten, head_with};
 
@@ -128,7 +128,7 @@ fn less(a: usize, b: usize) -> usize
 
 // How many tags and octets are left for gates to allocate.
 pub fn remainder(head: Head) -> Remaining
-    ensures { result ≡ remainderOf head }
+    ensures { result ≡ remainder_of head }
 {
     if head.allocation {
         return Remaining {

@@ -20,7 +20,7 @@ returns-then-head-entry_count c = λ u v s.
 
 pub serve_resources-requires : goal.serve_resources-requires
 serve_resources-requires c = let e = rw c.in-Resources.is at c.entry_count.ensures in
-    record { room = (sound-version _ _ _ c.requires.sound, omega (arith, e, c.if-head-entry_count.false, sound-list _ _ _ c.requires.sound), c.requires.room); list_ends = rw c.in-Resources.is at c.requires.operation_place }
+    record { limits = (sound-version _ _ _ c.requires.sound, omega (arith, e, c.if-head-entry_count.false, sound-list _ _ _ c.requires.sound), c.requires.room); list_ends = rw c.in-Resources.is at c.requires.operation_place }
 
 pub serve_allocate-requires : goal.serve_allocate-requires
 serve_allocate-requires c = (sound-version _ _ _ c.requires.sound, c.requires.room)
