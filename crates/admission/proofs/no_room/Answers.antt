@@ -20,12 +20,12 @@ more : (m u s : ℕ) → m < u → ltb m (u + s) ≡ true
 more m u s h = lt-ltb m (u + s) (omega arith)
 
 pub returns-then-head : goal.returns-then-head
-returns-then-head c = rw (le-leb c.args.head.limits.tags c.args.head.count c.if-head.true)
+returns-then-head c = rw (le-leb c.args.head.limits.tags c.args.head.count (omega (arith, c.if-head.true)))
 
 pub returns-then-head-2 : goal.returns-then-head-2
 returns-then-head-2 c =
-    rw (lt-leb c.args.head.limits.tags c.args.head.count c.if-head.false, more _ _ _ c.if-head-2.true)
+    rw (lt-leb c.args.head.limits.tags c.args.head.count (omega (arith, c.if-head.false)), more _ _ _ c.if-head-2.true)
 
 pub returns : goal.returns
 returns c =
-    rw (lt-leb c.args.head.limits.tags c.args.head.count c.if-head.false) (less-left _ _ _ c.if-head-2.false)
+    rw (lt-leb c.args.head.limits.tags c.args.head.count (omega (arith, c.if-head.false))) (less-left _ _ _ c.if-head-2.false)
