@@ -1,4 +1,4 @@
-// Where the linker finds libcapi.a: in TAXEEDHUUL_ARCHIVE, or where `rt staticlib capi` puts it; on another processor than x86-64, where .ci/archive does.
+// Where the linker finds libcapi.a: in TAXEEDHUUL_ARCHIVE, or where .ci/archive puts it for this processor.
 fn main() {
     let folder = std::env::var("TAXEEDHUUL_ARCHIVE").unwrap_or_else(|_| {
         let package = std::env::var("CARGO_MANIFEST_DIR").unwrap();

@@ -1,5 +1,5 @@
-// The functions that C and Rust link: a unit in memory that its owner lends, and the gate's writers and readers. Numbers, bools and slices only; the declarations
-// that a C program includes are include/taxeedhuul.h.
+// The functions that C and Rust link, as a library: a unit in memory that its owner lends, and the gate's writers and readers. Numbers, bools and slices only. The crate
+// capi_c exports them under the same names, and the declarations that a C program includes are include/taxeedhuul.h.
 // Rules: document 01. What a caller passes that is not the unit's memory is refused by the documents' numbers, as minus that number (specs/Result); a refusal touches
 // nothing. The one thing asked is that a unit's three slices are what these functions left (`Kept`, specs/Slices). On all the crates below, by their contracts.
 #![tactic(auto)]
@@ -169,8 +169,7 @@ fn clear_octets(memory: &mut [u8])
 // ---- the unit
 
 // Makes a unit in the lent slices, whatever they held: 0. 301 for a version above 15; 300 where a slice has not its length.
-#[unsafe(no_mangle)]
-pub extern "C" fn taxeedhuul_start(
+pub fn taxeedhuul_start(
     head: &mut [u64],
     table: &mut [u64],
     memory: &mut [u8],
@@ -194,8 +193,7 @@ pub extern "C" fn taxeedhuul_start(
 
 // The unit's answer to a request that came by a port: its length. 16 for a port above 1; 300 where a slice of the unit has not its length or the answer area is
 // shorter than 2,048 octets.
-#[unsafe(no_mangle)]
-pub extern "C" fn taxeedhuul_respond(
+pub fn taxeedhuul_respond(
     head: &mut [u64],
     table: &mut [u64],
     memory: &mut [u8],
@@ -222,8 +220,7 @@ pub extern "C" fn taxeedhuul_respond(
 
 // Fits a unit-managed tag for the vehicle, with its first data: 0. 16 for a mode above 2 (0 both, 1 write only, 2 read only); 300 where a slice of the unit has not
 // its length; then 6, 12, 9 and 5. The password counts only where the tag is locked.
-#[unsafe(no_mangle)]
-pub extern "C" fn taxeedhuul_fit(
+pub fn taxeedhuul_fit(
     head: &mut [u64],
     table: &mut [u64],
     memory: &mut [u8],
@@ -257,20 +254,14 @@ pub extern "C" fn taxeedhuul_fit(
 // ---- the gate writes: the length of the request in the area. 16 where it may not be written, then 300 for a short area
 
 // Asks for resource information of tags.
-#[unsafe(no_mangle)]
-pub extern "C" fn taxeedhuul_write_resource_information(
-    area: &mut [u8],
-    version: u8,
-    tags: &[u64],
-) -> i32
+pub fn taxeedhuul_write_resource_information(area: &mut [u8], version: u8, tags: &[u64]) -> i32
     ensures { Gives (request_sent (request version Form.Plain (b.resource_information (keys_of Form.Plain tags.now []))) area.old) result area.new }
 {
     of_written(requests::write_resources(area, version, tags))
 }
 
 // Asks for an area; the mode is the code of the tables.
-#[unsafe(no_mangle)]
-pub extern "C" fn taxeedhuul_write_allocate(
+pub fn taxeedhuul_write_allocate(
     area: &mut [u8],
     version: u8,
     tag: u64,
@@ -286,8 +277,7 @@ pub extern "C" fn taxeedhuul_write_allocate(
     of_written(requests::write_allocate(area, version, access, tag, mode, size, initial))
 }
 
-#[unsafe(no_mangle)]
-pub extern "C" fn taxeedhuul_write_free(
+pub fn taxeedhuul_write_free(
     area: &mut [u8],
     version: u8,
     tag: u64,
@@ -300,8 +290,7 @@ pub extern "C" fn taxeedhuul_write_free(
     of_written(requests::write_free(area, version, access, tag))
 }
 
-#[unsafe(no_mangle)]
-pub extern "C" fn taxeedhuul_write_read(
+pub fn taxeedhuul_write_read(
     area: &mut [u8],
     version: u8,
     tag: u64,
@@ -314,8 +303,7 @@ pub extern "C" fn taxeedhuul_write_read(
     of_written(requests::write_read(area, version, access, tag))
 }
 
-#[unsafe(no_mangle)]
-pub extern "C" fn taxeedhuul_write_write(
+pub fn taxeedhuul_write_write(
     area: &mut [u8],
     version: u8,
     tag: u64,
@@ -330,8 +318,7 @@ pub extern "C" fn taxeedhuul_write_write(
 }
 
 // A list of any number of tags, locked with a password each; otherwise no passwords are handed over.
-#[unsafe(no_mangle)]
-pub extern "C" fn taxeedhuul_write_bulk_read(
+pub fn taxeedhuul_write_bulk_read(
     area: &mut [u8],
     version: u8,
     locked: bool,
@@ -345,8 +332,7 @@ pub extern "C" fn taxeedhuul_write_bulk_read(
 }
 
 // The data of entry i is the part of `bytes` that starts at start i and has length i.
-#[unsafe(no_mangle)]
-pub extern "C" fn taxeedhuul_write_bulk_write(
+pub fn taxeedhuul_write_bulk_write(
     area: &mut [u8],
     version: u8,
     locked: bool,
@@ -463,8 +449,7 @@ fn words_of(version: u8, given: Given) -> [u64; 12]
 
 // What octets answer: the answer's type, or 255 for a denial. The words, 12 of them: type, version, status, tag, first place, length or count, and the six numbers of
 // what a unit can take.
-#[unsafe(no_mangle)]
-pub extern "C" fn taxeedhuul_read_answer(octets: &[u8], fields: &mut [u64]) -> i32
+pub fn taxeedhuul_read_answer(octets: &[u8], fields: &mut [u64]) -> i32
     ensures { ReadsAnswer octets.now fields.old result fields.new }
 {
     match answers::read_answer(octets) {
@@ -486,8 +471,7 @@ pub extern "C" fn taxeedhuul_read_answer(octets: &[u8], fields: &mut [u64]) -> i
 }
 
 // The entry of a list of tags at a place: where the next starts. The word: the tag.
-#[unsafe(no_mangle)]
-pub extern "C" fn taxeedhuul_read_tag(octets: &[u8], at: usize, fields: &mut [u64]) -> i32
+pub fn taxeedhuul_read_tag(octets: &[u8], at: usize, fields: &mut [u64]) -> i32
     ensures { ReadsTag octets.now at fields.old result fields.new }
 {
     let Key::Value {
@@ -506,8 +490,7 @@ pub extern "C" fn taxeedhuul_read_tag(octets: &[u8], at: usize, fields: &mut [u6
 }
 
 // The entry of a list of memory data at a place: where the next starts. The words: tag, first place and length of the data.
-#[unsafe(no_mangle)]
-pub extern "C" fn taxeedhuul_read_memory_data(octets: &[u8], at: usize, fields: &mut [u64]) -> i32
+pub fn taxeedhuul_read_memory_data(octets: &[u8], at: usize, fields: &mut [u64]) -> i32
     ensures { ReadsMemory octets.now at fields.old result fields.new }
 {
     let Memory::Value {
@@ -527,8 +510,7 @@ pub extern "C" fn taxeedhuul_read_memory_data(octets: &[u8], at: usize, fields: 
 }
 
 // The entry of a list of resource information at a place: where the next starts. The words: tag, mode code, data size, area size.
-#[unsafe(no_mangle)]
-pub extern "C" fn taxeedhuul_read_resource(octets: &[u8], at: usize, fields: &mut [u64]) -> i32
+pub fn taxeedhuul_read_resource(octets: &[u8], at: usize, fields: &mut [u64]) -> i32
     ensures { ReadsResource octets.now at fields.old result fields.new }
 {
     let ResourceRead::Value { resource, next } = resources::read_resource(octets, at) else {

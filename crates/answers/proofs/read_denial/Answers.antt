@@ -82,7 +82,7 @@ returns-then-end-s c =
             (let fact : denial.get c.args.s.now ≡ from_mark ((c.in-Value.octet / 16)) (drop c.in-Value.a c.args.s.now) = let e = rw c.in-Value.is at c.read_number.ensures in
             past-version _ _ _ e.says (sym c.fill_of.ensures ∙ c.if-fill_of-ne0.false) in fact) ∙ past-mark _ _ _ g.says _ c.if-mark-ne255.false in fact) ∙ past-status _ _ _ h.says _ in fact),
         past-supplement _ _ d (omega (arith, c.if-length-gt127.false)),
-        end_more _ _ c.in-Value-read_data.end c.if-end-s.true,
+        end_more c.args.s.now _ c.in-Value-read_data.end (omega (arith, c.if-end-s.true)),
       );
       place = tt;
     }
@@ -117,7 +117,7 @@ returns-else-end-s c =
             (let fact : denial.get c.args.s.now ≡ from_mark ((c.in-Value.octet / 16)) (drop c.in-Value.a c.args.s.now) = let e = rw c.in-Value.is at c.read_number.ensures in
             past-version _ _ _ e.says (sym c.fill_of.ensures ∙ c.if-fill_of-ne0.false) in fact) ∙ past-mark _ _ _ g.says _ c.if-mark-ne255.false in fact) ∙ past-status _ _ _ h.says _ in fact),
         past-supplement _ _ d (omega (arith, c.if-length-gt127.false)),
-        end-there _ _ c.in-Value-read_data.end c.if-end-s.false,
+        end-there c.args.s.now _ c.in-Value-read_data.end (omega (arith, c.if-end-s.false)),
         c.version_of.ensures,
       );
       place = (omega (arith, (let fact : (c.in-Value.octet / 16) < 16 = let e = rw c.in-Value.is at c.read_number.ensures in omega (arith, e.place) in fact), c.version_of.ensures), omega (arith, d.place));

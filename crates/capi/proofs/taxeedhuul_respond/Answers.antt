@@ -1,3 +1,4 @@
+use native.Mathlib.Omega.{arith}
 use lib.Dec.{ltb}
 use borrow.Author.Tests.{lt-ltb, le-ltb}
 use Rattle.store.specs.Model.{head_of}
@@ -12,12 +13,12 @@ use Rattle.capi.proofs.taxeedhuul_respond.Goals as goal
 pub returns-then-port-gt1 : goal.returns-then-port-gt1
 returns-then-port-gt1 c =
     let x : Slices = slices c.args.head.now c.args.table.now c.args.memory.now in
-    responds-barred c.args.port c.args.request.now x c.args.answer.now _ 16 (high-line 16 x (ltb 1 c.args.port) (lt-ltb 1 c.args.port c.if-port-gt1.true)) (read_back c.refusal.result c.refusal.type_inv c.refusal.ensures)
+    responds-barred c.args.port c.args.request.now x c.args.answer.now _ 16 (high-line 16 x (ltb 1 c.args.port) (lt-ltb 1 c.args.port (omega (arith, c.if-port-gt1.true)))) (read_back c.refusal.result c.refusal.type_inv c.refusal.ensures)
 
 pub returns-then-not-are_lent : goal.returns-then-not-are_lent
 returns-then-not-are_lent c =
     let x : Slices = slices c.args.head.now c.args.table.now c.args.memory.now in
-    responds-barred c.args.port c.args.request.now x c.args.answer.now _ 300 (unlent-line 16 x (ltb 1 c.args.port) (le-ltb 1 c.args.port c.if-port-gt1.false) (is-unlent x c.are_lent.ensures (ap not c.if-not-are_lent.true))) (read_back c.refusal-then-not-are_lent.result c.refusal-then-not-are_lent.type_inv c.refusal-then-not-are_lent.ensures)
+    responds-barred c.args.port c.args.request.now x c.args.answer.now _ 300 (unlent-line 16 x (ltb 1 c.args.port) (le-ltb 1 c.args.port (omega (arith, c.if-port-gt1.false))) (is-unlent x c.are_lent.ensures (ap not c.if-not-are_lent.true))) (read_back c.refusal-then-not-are_lent.result c.refusal-then-not-are_lent.type_inv c.refusal-then-not-are_lent.ensures)
 
 pub head_of-unit-requires : goal.head_of-unit-requires
 head_of-unit-requires c =
@@ -49,4 +50,4 @@ pub returns : goal.returns
 returns c =
     let x : Slices = slices c.args.head.now c.args.table.now c.args.memory.now in
     let l = is-lent x c.are_lent.ensures (ap not c.if-not-are_lent.false) in
-    responds c.args.port c.args.request.now x c.args.answer.now _ _ _ (no_line 16 x (ltb 1 c.args.port) (le-ltb 1 c.args.port c.if-port-gt1.false) l) (λ u k. rw (← c.port_of.ensures) (answers u _ c.args.request.now c.args.answer.now _ x _ c.respond-reply.result _ k (c.respond-reply.ensures u (rw (c.head_of-unit.ensures (head_of u) k.kind k.words) k.shown)) c.put_head.ensures (read_back c.of_sent.result c.of_sent.type_inv c.of_sent.ensures)))
+    responds c.args.port c.args.request.now x c.args.answer.now _ _ _ (no_line 16 x (ltb 1 c.args.port) (le-ltb 1 c.args.port (omega (arith, c.if-port-gt1.false))) l) (λ u k. rw (← c.port_of.ensures) (answers u _ c.args.request.now c.args.answer.now _ x _ c.respond-reply.result _ k (c.respond-reply.ensures u (rw (c.head_of-unit.ensures (head_of u) k.kind k.words) k.shown)) c.put_head.ensures (read_back c.of_sent.result c.of_sent.type_inv c.of_sent.ensures)))
