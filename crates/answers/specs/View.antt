@@ -1,9 +1,10 @@
 -- What the answers of the reader say of the octets s: document 01's number and values for each case. And where their parts lie: at the end of s.
 -- Together they leave one answer (proofs/Unique).
-use Rattle.std.specs.Prelude.{ℕ, ◌+◌, ◌<◌, ◌≡◌, List, [], length, drop}
+use Rattle.std.specs.Prelude.{ℕ, ◌+◌, ◌<◌, ◌≡◌, List, [], length, drop, Result, Ok, Err}
 use Rattle.octets.specs.Reading.{Read, bad, ok, and_then, at_end, Told, message, refused, told, fault_number}
 use Rattle.octets.specs.View.{within, entries_in}
 use Rattle.octets.specs.declared.Access.TheVariants.{Plain}
+use Rattle.octets.specs.declared.Fault.{Fault}
 use Rattle.octets.specs.declared.Form.{Form}
 use Rattle.octets.specs.declared.Form.TheVariants as f
 use Rattle.tags.specs.Entry.{key, memory}
@@ -16,8 +17,6 @@ use Rattle.answers.specs.Answer.{Body, body_of, answer_kind, answer_body, answer
 use Rattle.answers.specs.Answer as b
 use Rattle.answers.specs.declared.Given.{Given}
 use Rattle.answers.specs.declared.Given.TheVariants as g
-use Rattle.answers.specs.declared.Decoded.{Decoded}
-use Rattle.answers.specs.declared.Decoded.TheVariants as d
 use Rattle.answers.specs.declared.Reply.{Reply}
 use Rattle.answers.specs.declared.Reply.TheVariants as r
 
@@ -54,45 +53,45 @@ GivenPlace s (g.BulkWrite w list) = ListEnds (key f.Plain) s list
 -- ---- a body, from a place to the last octet
 
 -- a body that was read to the last octet; or a fault
-abbrev pub decoded_in : List ℕ → Decoded → Read Body
-decoded_in s (d.Good x) = ok (given_body s x) []
-decoded_in s (d.Bad f) = bad f
+abbrev pub decoded_in : List ℕ → Result Given Fault → Read Body
+decoded_in s (Ok x) = ok (given_body s x) []
+decoded_in s (Err f) = bad f
 
 -- it is of that answer's type, and its part ends where s ends
-abbrev pub DecodedPlace : List ℕ → ℕ → Decoded → Type 0
-DecodedPlace s kind (d.Good x) = (given_kind x ≡ kind) × GivenPlace s x
-DecodedPlace s kind (d.Bad f) = Unit {0}
+abbrev pub DecodedPlace : List ℕ → ℕ → Result Given Fault → Type 0
+DecodedPlace s kind (Ok x) = (given_kind x ≡ kind) × GivenPlace s x
+DecodedPlace s kind (Err f) = Unit {0}
 
 -- what reading the answer to one operation at a place answers
-pub record DecodedAs (x : Command) (w : Form) (s : List ℕ) (at : ℕ) (r : Decoded) : Type 0 where
+pub record DecodedAs (x : Command) (w : Form) (s : List ℕ) (at : ℕ) (r : Result Given Fault) : Type 0 where
   pub says : decoded_in s r ≡ at_end ((body_of x).get (drop at s))
   pub place : DecodedPlace s (answer_kind x w) r
 
 -- what reading the body of an answer's type at a place answers
-pub record DecodedAt (kind : ℕ) (s : List ℕ) (at : ℕ) (r : Decoded) : Type 0 where
+pub record DecodedAt (kind : ℕ) (s : List ℕ) (at : ℕ) (r : Result Given Fault) : Type 0 where
   pub says : decoded_in s r ≡ at_end ((answer_body kind).get (drop at s))
   pub place : DecodedPlace s kind r
 
 -- ---- a whole answer
 
 -- an answer or a denial that was read; or document 01's number, and the kind of the fault
-abbrev pub reply_in : List ℕ → Reply → Told Answer
-reply_in s (r.Accepted version x) = message (accepted (record { version = version; kind = given_kind x; body = given_body s x }))
-reply_in s (r.Denied version status p) = message (denied (record { version = version; status = status; supplement = within s p }))
-reply_in s (r.Bad f) = refused (fault_number f) f
+abbrev pub reply_in : List ℕ → Result Reply Fault → Told Answer
+reply_in s (Ok (r.Accepted version x)) = message (accepted (record { version = version; kind = given_kind x; body = given_body s x }))
+reply_in s (Ok (r.Denied version status p)) = message (denied (record { version = version; status = status; supplement = within s p }))
+reply_in s (Err f) = refused (fault_number f) f
 
 -- the version is 0 to 15, and the part that is shown ends where s ends
-abbrev pub ReplyPlace : List ℕ → Reply → Type 0
-ReplyPlace s (r.Accepted version x) = (version < 16) × GivenPlace s x
-ReplyPlace s (r.Denied version status p) = (version < 16) × (p.start + p.len ≡ length s)
-ReplyPlace s (r.Bad f) = Unit {0}
+abbrev pub ReplyPlace : List ℕ → Result Reply Fault → Type 0
+ReplyPlace s (Ok (r.Accepted version x)) = (version < 16) × GivenPlace s x
+ReplyPlace s (Ok (r.Denied version status p)) = (version < 16) × (p.start + p.len ≡ length s)
+ReplyPlace s (Err f) = Unit {0}
 
 -- what reading a denial answers
-pub record DenialOf (s : List ℕ) (r : Reply) : Type 0 where
+pub record DenialOf (s : List ℕ) (r : Result Reply Fault) : Type 0 where
   pub says : reply_in s r ≡ told (and_then (at_end (denial.get s)) (λ d t. ok (denied d) t))
   pub place : ReplyPlace s r
 
 -- what reading an answer answers
-pub record Understood (s : List ℕ) (r : Reply) : Type 0 where
+pub record Understood (s : List ℕ) (r : Result Reply Fault) : Type 0 where
   pub says : reply_in s r ≡ told (answer_read s)
   pub place : ReplyPlace s r

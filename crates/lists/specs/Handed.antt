@@ -1,5 +1,5 @@
 -- Lists (document 01, 'Messages': a list is its count and then its entries) as a caller hands them over: slices side by side, entry i made of their elements at i.
-use Rattle.std.specs.Prelude.{ℕ, ◌+◌, ◌<◌, ◌≤◌, ◌≡◌, ◌⊎◌, Bool, true, false, ◌&&◌, List, length, get_or, take, drop, leb, eqb}
+use Rattle.std.specs.Prelude.{ℕ, ◌+◌, ◌<◌, ◌≤◌, ◌≡◌, ◌⊎◌, Bool, true, false, ◌&&◌, List, length, get_or, take, drop, leb, eqb, Option, Some, None}
 use Rattle.octets.specs.Layout.{put_all, listed, list_of, every}
 use Rattle.octets.specs.Area.{Outcome, described}
 use Rattle.octets.specs.Frame.{sent}
@@ -8,8 +8,6 @@ use Rattle.octets.specs.declared.Access.TheVariants as a
 use Rattle.octets.specs.declared.Form.{Form}
 use Rattle.octets.specs.declared.Form.TheVariants as f
 use Rattle.tags.specs.Entry.{Keyed, Held, key, memory}
-use Rattle.lists.specs.declared.Measure.{Measure}
-use Rattle.lists.specs.declared.Measure.TheVariants as e
 
 -- passwords are handed over for every tag, or for none
 unfoldable pub agrees : Form → ℕ → ℕ → Bool
@@ -58,8 +56,8 @@ memories_sent w version kind tags passwords starts lengths octets old =
     described (belong w tags passwords starts lengths octets) (sent (list_of (memory w)) version kind (held_of w tags passwords starts lengths octets) old) old
 
 -- what a list of memory data will take, if all its parts lie within the octets and it is not over 2,048 already
-abbrev pub Measured : Form → List ℕ → List ℕ → List ℕ → List ℕ → List ℕ → ℕ → Measure → Type 0
-Measured w tags passwords starts lengths octets n (e.Octets size) =
+abbrev pub Measured : Form → List ℕ → List ℕ → List ℕ → List ℕ → List ℕ → ℕ → Option ℕ → Type 0
+Measured w tags passwords starts lengths octets n (Some size) =
     (every (inside_at starts lengths octets) n ≡ true) × (size ≤ 2048) × (size ≡ length (put_all (memory w) (listed (held_at w tags passwords starts lengths octets) n)))
-Measured w tags passwords starts lengths octets n e.Refused =
+Measured w tags passwords starts lengths octets n None =
     (every (inside_at starts lengths octets) n ≡ false) ⊎ (2048 < length (put_all (memory w) (listed (held_at w tags passwords starts lengths octets) n)))

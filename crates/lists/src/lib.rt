@@ -9,63 +9,49 @@ ghost use Rattle.tags.specs.Entry.{key, memory};
 ghost use Rattle.octets.specs.View.{ListAt, Walked};
 ghost use Rattle.lists.specs.Handed.{agrees, access_at, keys_of, held_of, keys_sent, memories_sent, Measured};
 
-use octets::{Access, Entries, Fault, Form, Length, Listing, Written};
-use tags::Memory;
+use octets::{Access, Entries, Fault, Form, Reading, Taken, Unwritten, Written};
 
 // A list of tags: every entry is of the same length, so the list is read without going over it.
-pub fn read_keys(s: &[u8], at: usize, form: Form) -> Listing
+pub fn read_keys(s: &[u8], at: usize, form: Form) -> Reading<Entries>
     ensures { ListAt (key form) s.now at result }
 {
-    match octets::read_length(s, at) {
-        Length::Bad(fault) => Listing::Bad(fault),
-        Length::Value { n, next } => {
-            let size = n * (8 + tags::lock_size(form));
-            if s.len() - next < size {
-                return Listing::Bad(Fault::Other);
-            }
-            Listing::Value {
-                list: Entries {
-                    start: next,
-                    count: n,
-                },
-                next: next + size,
-            }
-        }
+    let Taken {
+        value: count,
+        next: start,
+    } = octets::read_length(s, at)?;
+    let size = count * (8 + tags::lock_size(form));
+    if s.len() - start < size {
+        return Err(Fault::Other);
     }
+    Ok(Taken {
+        value: Entries { start, count },
+        next: start + size,
+    })
 }
 
 // A list of memory data, gone over entry by entry.
-pub fn read_memories(s: &[u8], at: usize, form: Form) -> Listing
+pub fn read_memories(s: &[u8], at: usize, form: Form) -> Reading<Entries>
     ensures { ListAt (memory form) s.now at result }
 {
-    match octets::read_length(s, at) {
-        Length::Bad(fault) => Listing::Bad(fault),
-        Length::Value { n, next } => walk_memories(s, next, n, form),
-    }
+    let Taken {
+        value: count,
+        next: start,
+    } = octets::read_length(s, at)?;
+    walk_memories(s, start, count, form)
 }
 
-fn walk_memories(s: &[u8], start: usize, count: usize, form: Form) -> Listing
+fn walk_memories(s: &[u8], start: usize, count: usize, form: Form) -> Reading<Entries>
     requires { start ≤ length s.now }
     ensures { Walked (memory form) s.now start count result }
 {
     let mut at = start;
-    let mut read = 0;
-    while read < count {
-        match tags::read_memory(s, at, form) {
-            Memory::Bad(fault) => return Listing::Bad(fault),
-            Memory::Value {
-                access: _,
-                tag: _,
-                span: _,
-                next,
-            } => at = next,
-        }
-        read += 1;
+    for _ in 0..count {
+        at = tags::read_memory(s, at, form)?.next;
     }
-    Listing::Value {
-        list: Entries { start, count },
+    Ok(Taken {
+        value: Entries { start, count },
         next: at,
-    }
+    })
 }
 
 // Whether passwords are handed over as the form wants them: one for every tag, or none.
@@ -93,10 +79,8 @@ fn put_keys(out: &mut [u8], at: usize, form: Form, tags: &[u64], passwords: &[u6
     ensures { Wrote out.old at (put_all (key form) (keys_of form tags.now passwords.now)) out.new result }
 {
     let mut next = at;
-    let mut i = 0;
-    while i < tags.len() {
+    for i in 0..tags.len() {
         next = tags::put_key(out, next, access_at(form, passwords, i), tags[i]);
-        i += 1;
     }
     next
 }
@@ -114,29 +98,18 @@ pub fn write_keys(
 {
     let n = tags.len();
     if !agree(form, n, passwords.len()) {
-        return Written::Refused;
+        return Err(Unwritten::Refused);
     }
     if 2048 < n {
-        return Written::Refused;
+        return Err(Unwritten::Refused);
     }
     let body = octets::length_size(n) + n * (8 + tags::lock_size(form));
-    match octets::open_message(out, version, kind, body) {
-        Written::Refused => Written::Refused,
-        Written::NoRoom => Written::NoRoom,
-        Written::Done(at) => {
-            let first = octets::write_length(out, at, n);
-            Written::Done(put_keys(out, first, form, tags, passwords))
-        }
-    }
+    let at = octets::open_message(out, version, kind, body)?;
+    let first = octets::write_length(out, at, n);
+    Ok(put_keys(out, first, form, tags, passwords))
 }
 
-#[derive(Clone, Copy)]
-enum Measure {
-    Octets(usize),
-    // A part that does not lie within the octets, or more than 2,048 octets.
-    Refused,
-}
-
+// How many octets the entries take; none where a part does not lie within the octets, or where it is more than 2,048.
 fn sum_memories(
     form: Form,
     tags: &[u64],
@@ -144,31 +117,29 @@ fn sum_memories(
     starts: &[usize],
     lengths: &[usize],
     src: &[u8],
-) -> Measure
+) -> Option<usize>
     requires { (length starts.now ≡ length tags.now) × (length lengths.now ≡ length tags.now) }
     ensures { Measured form tags.now passwords.now starts.now lengths.now src.now (length tags.now) result }
 {
     let mut size = 0;
-    let mut i = 0;
-    while i < tags.len() {
+    for i in 0..tags.len() {
         let start = starts[i];
         let n = lengths[i];
         if src.len() < start {
-            return Measure::Refused;
+            return None;
         }
         if src.len() - start < n {
-            return Measure::Refused;
+            return None;
         }
         if 2048 < n {
-            return Measure::Refused;
+            return None;
         }
         size = size + 8 + tags::lock_size(form) + octets::length_size(n) + n;
         if 2048 < size {
-            return Measure::Refused;
+            return None;
         }
-        i += 1;
     }
-    Measure::Octets(size)
+    Some(size)
 }
 
 fn put_memories(
@@ -185,11 +156,9 @@ fn put_memories(
     ensures { Wrote out.old at (put_all (memory form) (held_of form tags.now passwords.now starts.now lengths.now src.now)) out.new result }
 {
     let mut next = at;
-    let mut i = 0;
-    while i < tags.len() {
+    for i in 0..tags.len() {
         let piece = octets::part(src, starts[i], lengths[i]);
         next = tags::put_memory(out, next, access_at(form, passwords, i), tags[i], piece);
-        i += 1;
     }
     next
 }
@@ -211,23 +180,16 @@ pub fn write_memories(
 {
     let n = tags.len();
     if !agree(form, n, passwords.len()) {
-        return Written::Refused;
+        return Err(Unwritten::Refused);
     }
     if starts.len() != n {
-        return Written::Refused;
+        return Err(Unwritten::Refused);
     }
     if lengths.len() != n {
-        return Written::Refused;
+        return Err(Unwritten::Refused);
     }
-    let Measure::Octets(size) = sum_memories(form, tags, passwords, starts, lengths, src) else {
-        return Written::Refused;
-    };
-    match octets::open_message(out, version, kind, octets::length_size(n) + size) {
-        Written::Refused => Written::Refused,
-        Written::NoRoom => Written::NoRoom,
-        Written::Done(at) => {
-            let first = octets::write_length(out, at, n);
-            Written::Done(put_memories(out, first, form, tags, passwords, starts, lengths, src))
-        }
-    }
+    let size = sum_memories(form, tags, passwords, starts, lengths, src).ok_or(Unwritten::Refused)?;
+    let at = octets::open_message(out, version, kind, octets::length_size(n) + size)?;
+    let first = octets::write_length(out, at, n);
+    Ok(put_memories(out, first, form, tags, passwords, starts, lengths, src))
 }

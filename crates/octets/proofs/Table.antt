@@ -15,7 +15,8 @@ use Rattle.octets.specs.Frame.{opening, openable, opened}
 use Rattle.octets.specs.View.{within, entries_in}
 use Rattle.octets.specs.declared.Fault.TheVariants.{Missing, Longer, High, Other}
 use Rattle.octets.specs.declared.Width.TheVariants.{One, Two, Four, Eight}
-use Rattle.octets.specs.declared.Written.TheVariants.{Done, Refused, NoRoom}
+use Rattle.std.specs.Prelude.{Ok, Err}
+use Rattle.octets.specs.declared.Unwritten.TheVariants.{Refused, NoRoom}
 
 -- what is computed, and what it has to be
 module _ {A : Type 0} where
@@ -173,9 +174,9 @@ tests-hold = refl
 
 abbrev outcomes : List (Outcome × Outcome)
 outcomes =
-    (outcome (Done 7), done 7)
-    ∷ (outcome Refused, refused 16)
-    ∷ (outcome NoRoom, refused 300)
+    (outcome (Ok 7), done 7)
+    ∷ (outcome (Err Refused), refused 16)
+    ∷ (outcome (Err NoRoom), refused 300)
     ∷ []
 
 pub outcomes-hold : is outcomes ≡ should outcomes

@@ -1,108 +1,92 @@
 -- Each promise of this crate leaves one outcome: any two that it allows are equal.
--- The promises of length_size, octets_of, part, version_of, fill_of and bare_tag are themselves equations for the result.
+-- The promises of length_size, octets_of, part, to_end, version_of, fill_of and bare_tag are themselves equations for the result.
 use mathlib.Core.Bool.{cond}
-use Prim.Native.Nat.{ℕ, ◌≤◌}
+use Prim.Native.Nat.{ℕ, ◌+◌, ◌≤◌}
+use Rattle.std.specs.Prelude.{Result, Ok, Err}
 use mathlib.Core.Path.{◌≡◌, refl, sym, ap, ◌∙◌}
 use mathlib.Core.List.{List}
 use lib.ListN.{length, drop}
 use lib.Dec.{eqb}
-use Rattle.octets.specs.Reading.{ok}
-use Rattle.octets.specs.Area.{Outcome, done, refused, outcome, Laid, Does}
-use Rattle.octets.specs.View.{length_in, LengthPlace, LengthAt, number_in, NumberPlace, NumberAt, data_in, DataPlace, DataAt, heading_in, HeadingOf, enclosed_in, EnclosedPlace, EnclosedOf}
+use Rattle.octets.specs.Reading.{Read, ok, bad}
+use Rattle.octets.specs.Area.{Outcome, done, refused, outcome, Written, Laid, Does}
+use Rattle.octets.specs.View.{Reading, read_in, IfTaken, Reads, within, LengthAt, NumberAt, DataAt, heading_in, HeadingOf, enclosed_in, EnclosedPlace, EnclosedOf}
+use Rattle.octets.specs.declared.Fault.{Fault}
+use Rattle.octets.specs.declared.Taken.{Taken}
 use Rattle.octets.specs.declared.Width.{Width}
-use Rattle.octets.specs.declared.Written.{Written}
-use Rattle.octets.specs.declared.Written.TheVariants.{Done, Refused, NoRoom}
-use Rattle.octets.specs.declared.Length.{Length}
-use Rattle.octets.specs.declared.Length.TheVariants as l
-use Rattle.octets.specs.declared.Number.{Number}
-use Rattle.octets.specs.declared.Number.TheVariants as n
-use Rattle.octets.specs.declared.Data.{Data}
-use Rattle.octets.specs.declared.Data.TheVariants as d
+use Rattle.octets.specs.declared.Span.{Span}
 use Rattle.octets.specs.declared.Heading.{Heading}
-use Rattle.octets.specs.declared.Heading.TheVariants as h
-use Rattle.octets.specs.declared.Enclosed.{Enclosed}
-use Rattle.octets.specs.declared.Enclosed.TheVariants as e
+use Rattle.octets.specs.declared.Unwritten.{Unwritten}
+use Rattle.octets.specs.declared.Unwritten.TheVariants.{Refused, NoRoom}
 use Rattle.octets.proofs.Places.{drop-same, bad-ok, ok-val, ok-rest, bad-same}
 use Rattle.octets.proofs.Spans.{span_same}
 
--- ---- what an answer says of the octets, and where its positions lie, tell it from every other answer
+-- ---- readers of fields
 
-module _ (s : List ℕ) where
-  -- two readings that say the same end at the same place
-  place_same : {A : Type 0} {a b : A} {i j : ℕ} → i ≤ length s → j ≤ length s → ok a (drop i s) ≡ ok b (drop j s) → i ≡ j
-  place_same {A} {a} {b} {i} {j} h k q = drop-same s i j h k (ok-rest q)
+-- two values with their next places are one
+taken-same : {V : Type 0} {a b : Taken V} → a.value ≡ b.value → a.next ≡ b.next → a ≡ b
+taken-same v w = λ i. record { value = v i; next = w i }
 
-  length-told : (at : ℕ) (r t : Length) → LengthPlace s at r → LengthPlace s at t → length_in s r ≡ length_in s t → r ≡ t
-  length-told at (l.Value x i) (l.Value y j) h k q =
-      let v : x ≡ y = ok-val q in
-      let w : i ≡ j = place_same h.1 k.1 q in
-      rw (v, w)
-  length-told at (l.Value x i) (l.Bad g) h k q = absurd (bad-ok (sym q))
-  length-told at (l.Bad f) (l.Value y j) h k q = absurd (bad-ok q)
-  length-told at (l.Bad f) (l.Bad g) h k q = ap l.Bad (bad-same q)
-
-  number-told : (w : Width) (r t : Number) → NumberPlace s w r → NumberPlace s w t → number_in s r ≡ number_in s t → r ≡ t
-  number-told w (n.Value x i) (n.Value y j) h k q =
-      let v : x ≡ y = ok-val q in
-      let w : i ≡ j = place_same h.0 k.0 q in
-      rw (v, w)
-  number-told w (n.Value x i) n.Bad h k q = absurd (bad-ok (sym q))
-  number-told w n.Bad (n.Value y j) h k q = absurd (bad-ok q)
-  number-told w n.Bad n.Bad h k q = refl
-
-  data-told : (r t : Data) → DataPlace s r → DataPlace s t → data_in s r ≡ data_in s t → r ≡ t
-  data-told (d.Value p i) (d.Value o j) h k q =
-      let w : i ≡ j = place_same h.1 k.1 q in
-      let v : p ≡ o = span_same s p o h.0 (k.0 ∙ sym w) h.1 (ok-val q) in
-      rw (v, w)
-  data-told (d.Value p i) (d.Bad g) h k q = absurd (bad-ok (sym q))
-  data-told (d.Bad f) (d.Value o j) h k q = absurd (bad-ok q)
-  data-told (d.Bad f) (d.Bad g) h k q = ap d.Bad (bad-same q)
-
-  heading-told : (r t : Heading) → heading_in s r ≡ heading_in s t → r ≡ t
-  heading-told (h.Of v k) (h.Of w j) q = ap (λ (p : ℕ × ℕ). h.Of p.0 p.1) (ok-val q)
-  heading-told (h.Of v k) h.Bad q = absurd (bad-ok (sym q))
-  heading-told h.Bad (h.Of w j) q = absurd (bad-ok q)
-  heading-told h.Bad h.Bad q = refl
-
-  enclosed-told : (r t : Enclosed) → EnclosedPlace s r → EnclosedPlace s t → enclosed_in s r ≡ enclosed_in s t → r ≡ t
-  enclosed-told (e.From i) (e.From j) h k q = ap e.From (place_same h k q)
-  enclosed-told (e.From i) (e.Bad g) h k q = absurd (bad-ok (sym q))
-  enclosed-told (e.Bad f) (e.From j) h k q = absurd (bad-ok q)
-  enclosed-told (e.Bad f) (e.Bad g) h k q = ap e.Bad (bad-same q)
-
--- the writer's answer that an outcome stands for
-abbrev answer : Outcome → Written
-answer (done n) = Done n
-answer (refused n) = cond (eqb n 16) Refused NoRoom
-
-answer-is : (r : Written) → answer (outcome r) ≡ r
-answer-is (Done n) = refl
-answer-is Refused = refl
-answer-is NoRoom = refl
-
--- ---- the promises
+-- one reading: what the value shows, and where it lies, tell it from every other
+pub reads-unique : {V A : Type 0} {p : Read A} {shown : V → A} {Place : Taken V → Type 0} {s : List ℕ} {r t : Reading V}
+    → ((a : Taken V) → Place a → a.next ≤ length s)
+    → ((a b : Taken V) → Place a → Place b → a.next ≡ b.next → shown a.value ≡ shown b.value → a.value ≡ b.value)
+    → Reads p shown Place s r → Reads p shown Place s t → r ≡ t
+reads-unique {V} {A} {p} {shown} {Place} {s} {r} {t} ends same x y = go r t x.place y.place (x.says ∙ sym y.says)
+  where
+    go : (r t : Reading V) → IfTaken Place r → IfTaken Place t → read_in shown s r ≡ read_in shown s t → r ≡ t
+    go (Ok a) (Ok b) h k q =
+        let w : a.next ≡ b.next = drop-same s a.next b.next (ends a h) (ends b k) (ok-rest q) in
+        ap Ok (taken-same (same a b h k w (ok-val q)) w)
+    go (Ok a) (Err g) h k q = absurd (bad-ok (sym q))
+    go (Err f) (Ok b) h k q = absurd (bad-ok q)
+    go (Err f) (Err g) h k q = ap Err (bad-same q)
 
 module _ {s : List ℕ} where
   -- read_length: one number and one next place, or one fault
-  pub length-unique : {at : ℕ} {r t : Length} → LengthAt s at r → LengthAt s at t → r ≡ t
-  length-unique {at} {r} {t} p q = length-told s at r t p.place q.place (p.says ∙ sym q.says)
+  pub length-unique : {at : ℕ} {r t : Reading ℕ} → LengthAt s at r → LengthAt s at t → r ≡ t
+  length-unique {at} p q = reads-unique (λ a h. h.1.0) (λ a b h k w e. e) p q
 
-  -- read_number: one number and one next place, or none
-  pub number-unique : {at : ℕ} {w : Width} {r t : Number} → NumberAt s at w r → NumberAt s at w t → r ≡ t
-  number-unique {at} {w} {r} {t} p q = number-told s w r t p.place q.place (p.says ∙ sym q.says)
+  -- read_number: one number and one next place, or one fault
+  pub number-unique : {at : ℕ} {w : Width} {r t : Reading ℕ} → NumberAt s at w r → NumberAt s at w t → r ≡ t
+  number-unique {at} {w} p q = reads-unique (λ a h. h.0) (λ a b h k w e. e) p q
 
   -- read_data: one span and one next place, or one fault
-  pub data-unique : {at : ℕ} {r t : Data} → DataAt s at r → DataAt s at t → r ≡ t
-  data-unique {at} {r} {t} p q = data-told s r t p.place q.place (p.says ∙ sym q.says)
+  pub data-unique : {at : ℕ} {r t : Reading Span} → DataAt s at r → DataAt s at t → r ≡ t
+  data-unique {at} p q = reads-unique (λ a h. h.1) (λ a b h k w e. span_same s a.value b.value h.0 (k.0 ∙ sym w) h.1 e) p q
 
-  -- read_heading: one version and one operation type, or none
-  pub heading-unique : {r t : Heading} → HeadingOf s r → HeadingOf s t → r ≡ t
-  heading-unique {r} {t} p q = heading-told s r t (p.says ∙ sym q.says)
+  -- read_heading: one version and one operation type, or one fault
+  pub heading-unique : {r t : Result Heading Fault} → HeadingOf s r → HeadingOf s t → r ≡ t
+  heading-unique {r} {t} p q = go r t (p.says ∙ sym q.says)
+    where
+      go : (r t : Result Heading Fault) → heading_in s r ≡ heading_in s t → r ≡ t
+      go (Ok h) (Ok k) e =
+          let v : ◌≡◌ {A = ℕ × ℕ} (h.version, h.kind) (k.version, k.kind) = ok-val e in
+          ap Ok (λ i. record { version = (v i).0; kind = (v i).1 })
+      go (Ok h) (Err g) e = absurd (bad-ok (sym e))
+      go (Err f) (Ok k) e = absurd (bad-ok e)
+      go (Err f) (Err g) e = ap Err (bad-same e)
 
   -- read_enclosed: one place where the body starts, or one fault
-  pub enclosed-unique : {r t : Enclosed} → EnclosedOf s r → EnclosedOf s t → r ≡ t
-  enclosed-unique {r} {t} p q = enclosed-told s r t p.place q.place (p.says ∙ sym q.says)
+  pub enclosed-unique : {r t : Result ℕ Fault} → EnclosedOf s r → EnclosedOf s t → r ≡ t
+  enclosed-unique {r} {t} p q = go r t p.place q.place (p.says ∙ sym q.says)
+    where
+      go : (r t : Result ℕ Fault) → EnclosedPlace s r → EnclosedPlace s t → enclosed_in s r ≡ enclosed_in s t → r ≡ t
+      go (Ok i) (Ok j) h k e = ap Ok (drop-same s i j h k (ok-rest e))
+      go (Ok i) (Err g) h k e = absurd (bad-ok (sym e))
+      go (Err f) (Ok j) h k e = absurd (bad-ok e)
+      go (Err f) (Err g) h k e = ap Err (bad-same e)
+
+-- ---- writers
+
+-- the writer's answer that an outcome stands for
+abbrev answer : Outcome → Written
+answer (done n) = Ok n
+answer (refused n) = cond (eqb n 16) (Err Refused) (Err NoRoom)
+
+answer-is : (r : Written) → answer (outcome r) ≡ r
+answer-is (Ok n) = refl
+answer-is (Err Refused) = refl
+answer-is (Err NoRoom) = refl
 
 -- write_length, write_number and copy: one area and one next place
 pub laid-unique : {old v new new' : List ℕ} {at next next' : ℕ} → Laid old at v new next → Laid old at v new' next' → (new ≡ new') × (next ≡ next')

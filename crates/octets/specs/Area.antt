@@ -1,10 +1,10 @@
 -- The two rules for an area that a caller lends: a field is written whole or not at all, and a message is refused before its first octet is stored.
 -- Document 01, 'Denials and their order': 16 for a message that may not be written, then 300 for an area too short; nothing is written in either case, and
 -- octets past a written message keep their old content.
-use Rattle.std.specs.Prelude.{ℕ, ◌+◌, ◌≡◌, Bool, true, false, cond, List, ◌++◌, length, drop, ltb, leb}
+use Rattle.std.specs.Prelude.{ℕ, ◌+◌, ◌≡◌, Bool, true, false, cond, List, ◌++◌, length, drop, ltb, leb, Result, Ok, Err}
 use Rattle.std.proofs.lemmas.List.Edits.{sets}
-use Rattle.octets.specs.declared.Written.{Written}
-use Rattle.octets.specs.declared.Written.TheVariants.{Done, Refused, NoRoom}
+use Rattle.octets.specs.declared.Unwritten.{Unwritten}
+use Rattle.octets.specs.declared.Unwritten.TheVariants.{Refused, NoRoom}
 
 -- the octets v laid at a place of an area, if the area has room for all of them
 unfoldable pub laid : List ℕ → ℕ → List ℕ → List ℕ
@@ -24,16 +24,20 @@ pub record Wrote (old : List ℕ) (at : ℕ) (v x : List ℕ) (p : ℕ) : Type 0
   pub holds : x ≡ sets old at v
   pub next : p ≡ at + length v
 
--- what a writer of messages answers: the message's length, or document 01's number
+-- what a writer of messages answers: how many octets stand in the area, or why none do
+abbrev pub Written : Type 0
+Written = Result ℕ Unwritten
+
+-- what that says: the message's length, or document 01's number
 pub data Outcome : Type 0 where
   done : ℕ → Outcome
   refused : ℕ → Outcome
 
 -- the numbers: "gives 16 for writing exactly if" no such message may be written; "An area too short for the message gives 300"
 abbrev pub outcome : Written → Outcome
-outcome (Done n) = done n
-outcome Refused = refused 16
-outcome NoRoom = refused 300
+outcome (Ok n) = done n
+outcome (Err Refused) = refused 16
+outcome (Err NoRoom) = refused 300
 
 -- the answer and the area afterwards: 16 for a message that may not be written, then 300, "also writing nothing, and that test comes second";
 -- what lies past the message stays

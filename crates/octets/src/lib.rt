@@ -2,17 +2,16 @@
 // Rules: document 01, 'Messages' and 'Tags'. What each function means stands in specs/; no function asks anything of its caller.
 #![tactic(auto)]
 
-ghost use Rattle.std.specs.Prelude.{◌≡◌, reverse, ◌+◌, ◌-◌, ◌≤◌, length, take, drop};
-ghost use Rattle.std.proofs.lemmas.List.Edits.{sets};
+ghost use Rattle.std.specs.Prelude.{◌≡◌, ◌+◌, ◌-◌, ◌≤◌, length, take, drop};
 ghost use Rattle.octets.specs.Length.{encode_length};
 ghost use Rattle.octets.specs.Layout.{field_octets, size};
 ghost use Rattle.octets.specs.Number.{number, octets, width_of, version_part, fill_part, bare};
 ghost use Rattle.octets.specs.Area.{Laid, Does};
 ghost use Rattle.octets.specs.Frame.{opened};
-ghost use Rattle.octets.specs.View.{LengthAt, NumberAt, DataAt, HeadingOf, EnclosedOf};
+ghost use Rattle.octets.specs.View.{to_end, LengthAt, NumberAt, DataAt, HeadingOf, EnclosedOf};
 
 // What is wrong with octets that do not decode. The first three are of a length or a count alone.
-#[derive(Clone, Copy)]
+#[derive(Clone, Copy, PartialEq, Eq)]
 pub enum Fault {
     // Octets are missing, the second of a two-octet length included.
     Missing,
@@ -24,145 +23,63 @@ pub enum Fault {
 }
 
 // How a command shows its right to a tag: not at all, or by a password. Any 64 bits are a password, zero too.
-#[derive(Clone, Copy)]
+#[derive(Clone, Copy, PartialEq, Eq)]
 pub enum Access {
     Plain,
     Password(u64),
 }
 
 // By which port a command came.
-#[derive(Clone, Copy)]
+#[derive(Clone, Copy, PartialEq, Eq)]
 pub enum Port {
     Normal,
     Secure,
 }
 
 // Whether the tags of a message come plain or each with its password.
-#[derive(Clone, Copy)]
+#[derive(Clone, Copy, PartialEq, Eq)]
 pub enum Form {
     Plain,
     Password,
 }
 
-// ---- a reader
+// ---- what is read
 
-// Octets that are read in place, and the place where the reader stands. A function of a reader takes it apart and calls one of a slice and a place;
-// read_length, read_number, part and left_at make the reader for their callers.
+// A value that was read, and where the next field starts.
 #[derive(Clone, Copy)]
-pub struct Reader<'a> {
-    pub src: &'a [u8],
-    pub at: usize,
+pub struct Taken<T> {
+    pub value: T,
+    pub next: usize,
 }
 
-pub fn reader_at<'a>(src: &'a [u8], at: usize) -> Reader<'a>
-    ensures { (result.src ≡ src.entry) × (result.at ≡ at) }
-{
-    Reader { src, at }
+// What reading at a place gives.
+pub type Reading<T> = Result<Taken<T>, Fault>;
+
+impl<T: Copy> Taken<T> {
+    // The value, if the next field would start where the octets end: nothing stands behind it.
+    pub fn to_end(self, s: &[u8]) -> Result<T, Fault>
+        ensures { result ≡ to_end s.now self }
+    {
+        if self.next < s.len() {
+            return Err(Fault::Other);
+        }
+        Ok(self.value)
+    }
 }
 
-// Where the reader stands.
-pub fn place<'a>(r: Reader<'a>) -> usize
-    ensures { result ≡ r.entry.at }
-{
-    r.at
-}
-
-// How many octets are left from there on; past the end none.
-pub fn left<'a>(r: Reader<'a>) -> usize
-    ensures { result ≡ length r.entry.src.now - r.entry.at }
-{
-    octets_left(r.src, r.at)
-}
-
-fn octets_left(s: &[u8], at: usize) -> usize
-    ensures { result ≡ length s.now - at }
-{
-    if s.len() < at { 0 } else { s.len() - at }
-}
-
-pub fn left_at(s: &[u8], at: usize) -> usize
-    ensures { result ≡ length s.now - at }
-{
-    left(reader_at(s, at))
-}
-
-// ---- lengths and counts
-
+// A part of a slice.
 #[derive(Clone, Copy)]
-pub enum Length {
-    Value { n: usize, next: usize },
-    Bad(Fault),
+pub struct Span {
+    pub start: usize,
+    pub len: usize,
 }
 
-// The length or count that stands at a place, and where the next field starts.
-pub fn read_length(s: &[u8], at: usize) -> Length
-    ensures { LengthAt s.now at result }
-{
-    next_length(reader_at(s, at))
+// A list that stands in a message: where its first entry starts, and how many there are.
+#[derive(Clone, Copy)]
+pub struct Entries {
+    pub start: usize,
+    pub count: usize,
 }
-
-// The same, where the reader stands.
-pub fn next_length<'a>(r: Reader<'a>) -> Length
-    ensures { LengthAt r.entry.src.now r.entry.at result }
-{
-    length_of(r.src, r.at)
-}
-
-fn length_of(s: &[u8], at: usize) -> Length
-    ensures { LengthAt s.now at result }
-{
-    if s.len() <= at {
-        return Length::Bad(Fault::Missing);
-    }
-    let a = s[at] as usize;
-    if a < 128 {
-        return Length::Value { n: a, next: at + 1 };
-    }
-    if 192 <= a {
-        return Length::Bad(Fault::High);
-    }
-    if s.len() - at < 2 {
-        return Length::Bad(Fault::Missing);
-    }
-    let i = at + 1;
-    let n = (a - 128) * 256 + s[i] as usize;
-    if n <= 127 {
-        return Length::Bad(Fault::Longer);
-    }
-    Length::Value { n, next: at + 2 }
-}
-
-// How many octets a length takes.
-pub fn length_size(n: usize) -> usize
-    ensures { (result ≡ length (encode_length n)) × (result ≤ 2) }
-{
-    if n < 128 { 1 } else { 2 }
-}
-
-// Writes a length, if it has a form and the area has room for it, and says where the next field starts.
-pub fn write_length(out: &mut [u8], at: usize, n: usize) -> usize
-    ensures { Laid out.old at (field_octets size n) out.new result }
-{
-    if 16384 <= n {
-        return at;
-    }
-    if out.len() < at {
-        return at;
-    }
-    if out.len() - at < length_size(n) {
-        return at;
-    }
-    if n < 128 {
-        out[at] = n as u8;
-        return at + 1;
-    }
-    let i = at + 1;
-    out[at] = (128 + n / 256) as u8;
-    out[i] = (n % 256) as u8;
-    at + 2
-}
-
-// ---- numbers of a fixed count of octets
 
 // How many octets a number's field has.
 #[derive(Clone, Copy)]
@@ -184,81 +101,182 @@ pub fn octets_of(width: Width) -> usize
     }
 }
 
+// ---- a reader
+
+// Octets that are read in place, and the place where the reader stands.
 #[derive(Clone, Copy)]
-pub enum Number {
-    Value { n: u64, next: usize },
-    Bad,
+pub struct Reader<'a> {
+    pub src: &'a [u8],
+    pub at: usize,
 }
 
-// The number of a field at a place, high part first.
-pub fn read_number(s: &[u8], at: usize, width: Width) -> Number
-    ensures { NumberAt s.now at width result }
-{
-    next_number(reader_at(s, at), width)
-}
-
-// The same, where the reader stands.
-pub fn next_number<'a>(r: Reader<'a>, width: Width) -> Number
-    ensures { NumberAt r.entry.src.now r.entry.at width result }
-{
-    number_of(r.src, r.at, width)
-}
-
-fn number_of(s: &[u8], at: usize, width: Width) -> Number
-    ensures { NumberAt s.now at width result }
-{
-    let n = octets_of(width);
-    if s.len() < at {
-        return Number::Bad;
+impl<'a> Reader<'a> {
+    pub fn new(src: &'a [u8], at: usize) -> Reader<'a>
+        ensures { (result.src ≡ src.entry) × (result.at ≡ at) }
+    {
+        Reader { src, at }
     }
-    if s.len() - at < n {
-        return Number::Bad;
+
+    // Where the reader stands.
+    pub fn place(self) -> usize
+        ensures { result ≡ self.entry.at }
+    {
+        self.at
     }
-    Number::Value {
-        n: sum_octets(s, at, n),
-        next: at + n,
+
+    // How many octets are left from there on; past the end none.
+    pub fn left(self) -> usize
+        ensures { result ≡ length self.entry.src.now - self.entry.at }
+    {
+        self.src.len().saturating_sub(self.at)
+    }
+
+    // The length or count that stands there.
+    pub fn length(self) -> Reading<usize>
+        ensures { LengthAt self.entry.src.now self.entry.at result }
+    {
+        let s = self.src;
+        let at = self.at;
+        if s.len() <= at {
+            return Err(Fault::Missing);
+        }
+        let a = s[at] as usize;
+        if a < 128 {
+            return Ok(Taken {
+                value: a,
+                next: at + 1,
+            });
+        }
+        if 192 <= a {
+            return Err(Fault::High);
+        }
+        if s.len() - at < 2 {
+            return Err(Fault::Missing);
+        }
+        let n = (a - 128) * 256 + s[at + 1] as usize;
+        if n <= 127 {
+            return Err(Fault::Longer);
+        }
+        Ok(Taken {
+            value: n,
+            next: at + 2,
+        })
+    }
+
+    // The number of a field that stands there, high part first.
+    pub fn number(self, width: Width) -> Reading<u64>
+        ensures { NumberAt self.entry.src.now self.entry.at width result }
+    {
+        let s = self.src;
+        let at = self.at;
+        let n = octets_of(width);
+        if self.left() < n {
+            return Err(Fault::Other);
+        }
+        Ok(Taken {
+            value: number_of(&s[at..at + n]),
+            next: at + n,
+        })
+    }
+
+    // The octets of a span that starts there, as the part of the slice where they stand; of one that reaches past the slice, those that are there.
+    pub fn part(self, len: usize) -> &'a [u8]
+        ensures { result.now ≡ take len (drop self.entry.at self.entry.src.now) }
+    {
+        let start = self.at.min(self.src.len());
+        &self.src[start..start + len.min(self.left())]
     }
 }
 
-fn sum_octets(s: &[u8], at: usize, n: usize) -> u64
-    requires { (n ≤ 8) × (at + n ≤ length s.now) }
-    ensures { result ≡ number (take n (drop at s.now)) }
+// A number of at most eight octets, high part first.
+fn number_of(s: &[u8]) -> u64
+    requires { length s.now ≤ 8 }
+    ensures { result ≡ number s.now }
 {
-    if n == 8 {
-        return sum_eight(s, at);
+    if s.len() == 8 {
+        return u64::from_be_bytes([s[0], s[1], s[2], s[3], s[4], s[5], s[6], s[7]]);
     }
     let mut x: u64 = 0;
-    let mut i = 0;
-    while i < n {
-        let b = s[at + i] as u64;
-        x = x * 256 + b;
-        i += 1;
+    for octet in s {
+        x = x * 256 + *octet as u64;
     }
     x
 }
 
-// Eight octets, turned after they are summed the last first.
-fn sum_eight(s: &[u8], at: usize) -> u64
-    requires { at + 8 ≤ length s.now }
-    ensures { result ≡ number (take 8 (drop at s.now)) }
+// ---- the fields, at a place
+
+// The length or count that stands at a place.
+pub fn read_length(s: &[u8], at: usize) -> Reading<usize>
+    ensures { LengthAt s.now at result }
 {
-    turned(sum_turned(s, at))
+    Reader::new(s, at).length()
 }
 
-// Eight octets, the last counting most. With no loop: the compiler makes one load of it wherever it stands.
-fn sum_turned(s: &[u8], at: usize) -> u64
-    requires { at + 8 ≤ length s.now }
-    ensures { result ≡ number (reverse (take 8 (drop at s.now))) }
+// The number of a field at a place, high part first.
+pub fn read_number(s: &[u8], at: usize, width: Width) -> Reading<u64>
+    ensures { NumberAt s.now at width result }
 {
-    let a = s[at] as u64;
-    let b = s[at + 1] as u64;
-    let c = s[at + 2] as u64;
-    let d = s[at + 3] as u64;
-    let e = s[at + 4] as u64;
-    let f = s[at + 5] as u64;
-    let g = s[at + 6] as u64;
-    let h = s[at + 7] as u64;
-    ((((((h * 256 + g) * 256 + f) * 256 + e) * 256 + d) * 256 + c) * 256 + b) * 256 + a
+    Reader::new(s, at).number(width)
+}
+
+// How many octets are left from a place on; past the end none.
+pub fn left_at(s: &[u8], at: usize) -> usize
+    ensures { result ≡ length s.now - at }
+{
+    Reader::new(s, at).left()
+}
+
+// The octets of a span, as the part of the slice where they stand; of a span that reaches past the slice, those that are there.
+pub fn part(s: &[u8], start: usize, len: usize) -> &[u8]
+    ensures { result.now ≡ take len (drop start s.now) }
+{
+    Reader::new(s, start).part(len)
+}
+
+// A length and as many octets: where those octets stand.
+pub fn read_data(s: &[u8], at: usize) -> Reading<Span>
+    ensures { DataAt s.now at result }
+{
+    let Taken {
+        value: len,
+        next: start,
+    } = read_length(s, at)?;
+    if left_at(s, start) < len {
+        return Err(Fault::Other);
+    }
+    Ok(Taken {
+        value: Span { start, len },
+        next: start + len,
+    })
+}
+
+// How many octets a length takes.
+pub fn length_size(n: usize) -> usize
+    ensures { (result ≡ length (encode_length n)) × (result ≤ 2) }
+{
+    if n < 128 { 1 } else { 2 }
+}
+
+// ---- fields that are written: whole or not at all
+
+// Writes a length, if it has a form and the area has room for it, and says where the next field starts.
+pub fn write_length(out: &mut [u8], at: usize, n: usize) -> usize
+    ensures { Laid out.old at (field_octets size n) out.new result }
+{
+    if 16384 <= n {
+        return at;
+    }
+    if left_at(out, at) < length_size(n) {
+        return at;
+    }
+    if n < 128 {
+        out[at] = n as u8;
+        return at + 1;
+    }
+    let i = at + 1;
+    out[at] = (128 + n / 256) as u8;
+    out[i] = (n % 256) as u8;
+    at + 2
 }
 
 // Writes the low octets of a number, as many as its field has, if the area has room for all of them.
@@ -266,159 +284,35 @@ pub fn write_number(out: &mut [u8], at: usize, width: Width, x: u64) -> usize
     ensures { Laid out.old at (octets (width_of width) x) out.new result }
 {
     let n = octets_of(width);
-    if out.len() < at {
+    if left_at(out, at) < n {
         return at;
     }
-    if out.len() - at < n {
-        return at;
-    }
-    if n == 8 {
-        store_eight(out, at, x);
-        return at + 8;
-    }
-    store_octets(out, at, n, x);
+    put_number(&mut out[at..at + n], x);
     at + n
 }
 
-fn store_octets(out: &mut [u8], at: usize, n: usize, x: u64)
-    requires { (n ≤ 8) × (at + n ≤ length out.old) }
-    ensures { out.new ≡ sets out.old at (octets n x) }
+// The octets become those of a number, as many as there are.
+fn put_number(out: &mut [u8], x: u64)
+    requires { length out.old ≤ 8 }
+    ensures { out.new ≡ octets (length out.old) x }
 {
-    let mut i = 0;
-    while i < n {
-        out[at + i] = ((x >> (8 * (n - 1 - i))) & 255) as u8;
-        i += 1;
-    }
-}
-
-// Eight octets, the last of the turned number first: the compiler makes one store of it.
-fn store_eight(out: &mut [u8], at: usize, x: u64)
-    requires { at + 8 ≤ length out.old }
-    ensures { out.new ≡ sets out.old at (octets 8 x) }
-{
-    let mut y = turned(x);
-    let mut i = 0;
-    while i < 8 {
-        out[at + i] = (y % 256) as u8;
-        y = y / 256;
-        i += 1;
-    }
-}
-
-// The number whose octets are those of x in the other order.
-fn turned(x: u64) -> u64
-    ensures { result ≡ number (reverse (octets 8 x)) }
-{
-    let mut y: u64 = 0;
-    let mut z = x;
-    let mut i: usize = 0;
-    while i < 8 {
-        y = y * 256 + z % 256;
-        z = z / 256;
-        i += 1;
-    }
-    y
-}
-
-// ---- data
-
-// A part of a slice.
-#[derive(Clone, Copy)]
-pub struct Span {
-    pub start: usize,
-    pub len: usize,
-}
-
-#[derive(Clone, Copy)]
-pub enum Data {
-    Value { span: Span, next: usize },
-    Bad(Fault),
-}
-
-// A length and as many octets: where those octets stand.
-pub fn read_data(s: &[u8], at: usize) -> Data
-    ensures { DataAt s.now at result }
-{
-    match read_length(s, at) {
-        Length::Bad(fault) => Data::Bad(fault),
-        Length::Value { n, next } => {
-            if left_at(s, next) < n {
-                return Data::Bad(Fault::Other);
-            }
-            Data::Value {
-                span: Span {
-                    start: next,
-                    len: n,
-                },
-                next: next + n,
-            }
-        }
-    }
-}
-
-// A list that stands in a message: where its first entry starts, and how many there are.
-#[derive(Clone, Copy)]
-pub struct Entries {
-    pub start: usize,
-    pub count: usize,
-}
-
-#[derive(Clone, Copy)]
-pub enum Listing {
-    Value { list: Entries, next: usize },
-    Bad(Fault),
-}
-
-// The octets of a span, as the part of the slice where they stand; of a span that reaches past the slice, those that are there.
-pub fn part(s: &[u8], start: usize, len: usize) -> &[u8]
-    ensures { result.now ≡ take len (drop start s.now) }
-{
-    next_part(reader_at(s, start), len)
-}
-
-// The same, where the reader stands.
-pub fn next_part<'a>(r: Reader<'a>, len: usize) -> &'a [u8]
-    ensures { result.now ≡ take len (drop r.entry.at r.entry.src.now) }
-{
-    part_of(r.src, r.at, len)
-}
-
-fn part_of(s: &[u8], start: usize, len: usize) -> &[u8]
-    ensures { result.now ≡ take len (drop start s.now) }
-{
-    if s.len() <= start {
-        let end = s.len();
-        return &s[end..];
-    }
-    if s.len() - start < len {
-        return &s[start..];
-    }
-    &s[start..start + len]
+    let bytes = x.to_be_bytes();
+    out.copy_from_slice(&bytes[8 - out.len()..]);
 }
 
 // Copies octets to a place, if the area has room for all of them.
 pub fn copy(out: &mut [u8], at: usize, src: &[u8]) -> usize
     ensures { Laid out.old at src.now out.new result }
 {
+    let n = src.len();
     if out.len() < at {
         return at;
     }
-    if out.len() - at < src.len() {
+    if out.len() - at < n {
         return at;
     }
-    store_all(out, at, src);
-    at + src.len()
-}
-
-fn store_all(out: &mut [u8], at: usize, src: &[u8])
-    requires { at + length src.now ≤ length out.old }
-    ensures { out.new ≡ sets out.old at src.now }
-{
-    let mut i = 0;
-    while i < src.len() {
-        out[at + i] = src[i];
-        i += 1;
-    }
+    out[at..at + n].copy_from_slice(src);
+    at + n
 }
 
 // ---- bits of the version octet and of a tag
@@ -444,88 +338,78 @@ pub fn bare_tag(tag: u64) -> u64
 
 // ---- the frame around a body
 
-// What became of octets that were to be written into an area.
-#[derive(Clone, Copy)]
-pub enum Written {
-    // They stand there: how many they are.
-    Done(usize),
+// Why no octet was written into an area.
+#[derive(Clone, Copy, PartialEq, Eq)]
+pub enum Unwritten {
     // The message may not be written: 16.
     Refused,
     // The area is too short for it: 300.
     NoRoom,
 }
 
+// What became of octets that were to be written into an area: how many stand there.
+pub type Written = Result<usize, Unwritten>;
+
 // Writes what stands before a body of that many octets, if the message may be written and the area has room for the whole of it; the body starts behind it.
 pub fn open_message(out: &mut [u8], version: u8, kind: u8, body: usize) -> Written
     ensures { Does (opened version kind body out.old) result out.new }
 {
     if 15 < version {
-        return Written::Refused;
+        return Err(Unwritten::Refused);
     }
     if 2042 < body {
-        return Written::Refused; // with what stands before it, over 2,048 octets
+        return Err(Unwritten::Refused); // with what stands before it, over 2,048 octets
     }
     let start = 4 + length_size(body);
     if out.len() < start + body {
-        return Written::NoRoom;
+        return Err(Unwritten::NoRoom);
     }
     out[0] = version << 4;
     out[1] = 1;
     out[2] = kind;
     out[3] = 0;
     write_length(out, 4, body);
-    Written::Done(start)
-}
-
-#[derive(Clone, Copy)]
-pub enum Heading {
-    Of { version: u8, kind: u8 },
-    Bad,
+    Ok(start)
 }
 
 // The version and the operation type that a message begins with.
-pub fn read_heading(s: &[u8]) -> Heading
+#[derive(Clone, Copy)]
+pub struct Heading {
+    pub version: u8,
+    pub kind: u8,
+}
+
+pub fn read_heading(s: &[u8]) -> Result<Heading, Fault>
     ensures { HeadingOf s.now result }
 {
     if s.len() < 3 {
-        return Heading::Bad;
+        return Err(Fault::Other);
     }
     if fill_of(s[0]) != 0 {
-        return Heading::Bad;
+        return Err(Fault::Other);
     }
     if s[1] != 1 {
-        return Heading::Bad;
+        return Err(Fault::Other);
     }
-    Heading::Of {
+    Ok(Heading {
         version: version_of(s[0]),
         kind: s[2],
-    }
+    })
 }
 
-#[derive(Clone, Copy)]
-pub enum Enclosed {
-    // Where the body starts; it is exactly the rest.
-    From(usize),
-    Bad(Fault),
-}
-
-// The security profile and the length of the body, behind the operation type.
-pub fn read_enclosed(s: &[u8]) -> Enclosed
+// The security profile and the length of the body, behind the operation type: where the body starts. It is exactly the rest.
+pub fn read_enclosed(s: &[u8]) -> Result<usize, Fault>
     ensures { EnclosedOf s.now result }
 {
     if s.len() < 4 {
-        return Enclosed::Bad(Fault::Other);
+        return Err(Fault::Other);
     }
     if s[3] != 0 {
-        return Enclosed::Bad(Fault::Other);
+        return Err(Fault::Other);
     }
-    match read_length(s, 4) {
-        Length::Bad(fault) => Enclosed::Bad(fault),
-        Length::Value { n, next } => {
-            if left_at(s, next) != n {
-                return Enclosed::Bad(Fault::Other);
-            }
-            Enclosed::From(next)
-        }
+    let Taken { value: n, next } = read_length(s, 4)?;
+    if left_at(s, next) != n {
+        return Err(Fault::Other);
     }
+    Ok(next)
 }

@@ -1,11 +1,12 @@
 -- What the answers of the readers of requests say of the octets s: document 01's number and values for each case. And where their parts lie: at the end of s.
 -- Together they leave one answer (proofs/Unique).
-use Rattle.std.specs.Prelude.{ℕ, ◌+◌, ◌≤◌, ◌<◌, ◌≡◌, List, [], length, drop}
+use Rattle.std.specs.Prelude.{ℕ, ◌+◌, ◌≤◌, ◌<◌, ◌≡◌, List, [], length, drop, Result, Ok, Err}
 use Rattle.octets.specs.Reading.{Read, bad, ok, forget, at_end, Told, message, refused, told, fault_number}
 use Rattle.octets.specs.Layout.{Layout, entries}
 use Rattle.octets.specs.Frame.{Message}
 use Rattle.octets.specs.View.{within, entries_in}
 use Rattle.octets.specs.declared.Entries.{Entries}
+use Rattle.octets.specs.declared.Fault.{Fault}
 use Rattle.octets.specs.declared.Form.{Form}
 use Rattle.octets.specs.declared.Form.TheVariants as f
 use Rattle.tags.specs.Entry.{form_of, key, memory}
@@ -16,10 +17,7 @@ use Rattle.requests.specs.Request.{Body, body_of, request_body, request_read}
 use Rattle.requests.specs.Request as b
 use Rattle.requests.specs.declared.Operation.{Operation}
 use Rattle.requests.specs.declared.Operation.TheVariants as o
-use Rattle.requests.specs.declared.Decoded.{Decoded}
-use Rattle.requests.specs.declared.Decoded.TheVariants as d
 use Rattle.requests.specs.declared.Request.{Request}
-use Rattle.requests.specs.declared.Request.TheVariants as r
 
 -- the operation type of each case
 abbrev pub operation_kind : Operation → ℕ
@@ -58,38 +56,38 @@ OperationPlace s (o.BulkWrite w list) = ListEnds (memory w) s list
 -- ---- a body, from a place to the last octet
 
 -- a body that was read to the last octet; or a fault
-abbrev pub decoded_in : List ℕ → Decoded → Read Body
-decoded_in s (d.Good x) = ok (operation_body s x) []
-decoded_in s (d.Bad f) = bad f
+abbrev pub decoded_in : List ℕ → Result Operation Fault → Read Body
+decoded_in s (Ok x) = ok (operation_body s x) []
+decoded_in s (Err f) = bad f
 
 -- it is of that operation type, and its part ends where s ends
-abbrev pub DecodedPlace : List ℕ → ℕ → Decoded → Type 0
-DecodedPlace s kind (d.Good x) = (operation_kind x ≡ kind) × OperationPlace s x
-DecodedPlace s kind (d.Bad f) = Unit {0}
+abbrev pub DecodedPlace : List ℕ → ℕ → Result Operation Fault → Type 0
+DecodedPlace s kind (Ok x) = (operation_kind x ≡ kind) × OperationPlace s x
+DecodedPlace s kind (Err f) = Unit {0}
 
 -- what reading the body of one operation at a place answers
-pub record DecodedAs (x : Command) (w : Form) (s : List ℕ) (at : ℕ) (r : Decoded) : Type 0 where
+pub record DecodedAs (x : Command) (w : Form) (s : List ℕ) (at : ℕ) (r : Result Operation Fault) : Type 0 where
   pub says : decoded_in s r ≡ at_end ((body_of x w).get (drop at s))
   pub place : DecodedPlace s (kind_of x w) r
 
 -- what reading the body of an operation type at a place answers
-pub record DecodedAt (kind : ℕ) (s : List ℕ) (at : ℕ) (r : Decoded) : Type 0 where
+pub record DecodedAt (kind : ℕ) (s : List ℕ) (at : ℕ) (r : Result Operation Fault) : Type 0 where
   pub says : decoded_in s r ≡ at_end ((request_body kind).get (drop at s))
   pub place : DecodedPlace s kind r
 
 -- ---- a whole request
 
 -- a request that was read; or document 01's number, and the kind of the fault
-abbrev pub request_in : List ℕ → Request → Told (Message Body)
-request_in s (r.Message version x) = message (record { version = version; kind = operation_kind x; body = operation_body s x })
-request_in s (r.Bad f) = refused (fault_number f) f
+abbrev pub request_in : List ℕ → Result Request Fault → Told (Message Body)
+request_in s (Ok q) = message (record { version = q.version; kind = operation_kind q.operation; body = operation_body s q.operation })
+request_in s (Err f) = refused (fault_number f) f
 
 -- the version is 0 to 15, and the part that is shown ends where s ends
-abbrev pub RequestPlace : List ℕ → Request → Type 0
-RequestPlace s (r.Message version x) = (version < 16) × OperationPlace s x
-RequestPlace s (r.Bad f) = Unit {0}
+abbrev pub RequestPlace : List ℕ → Result Request Fault → Type 0
+RequestPlace s (Ok q) = (q.version < 16) × OperationPlace s q.operation
+RequestPlace s (Err f) = Unit {0}
 
 -- what reading a request answers
-pub record Understood (s : List ℕ) (r : Request) : Type 0 where
+pub record Understood (s : List ℕ) (r : Result Request Fault) : Type 0 where
   pub says : request_in s r ≡ told (request_read s)
   pub place : RequestPlace s r

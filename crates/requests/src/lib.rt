@@ -3,18 +3,18 @@
 // resources, by their contracts.
 #![tactic(auto)]
 
-ghost use Rattle.std.specs.Prelude.{[], ◌≡◌};
+ghost use Rattle.std.specs.Prelude.{[], ◌≡◌, ◌≤◌};
 ghost use Rattle.octets.specs.Area.{Does};
 ghost use Rattle.tags.specs.Entry.{form_of};
 ghost use Rattle.lists.specs.Handed.{keys_of};
+ghost use Rattle.requests.specs.Command.{form_number};
 ghost use Rattle.requests.specs.Command as c;
 ghost use Rattle.requests.specs.Request as b;
 ghost use Rattle.requests.specs.Request.{request, request_sent, bulk_read_sent, bulk_write_sent};
 ghost use Rattle.requests.specs.View.{DecodedAs, DecodedAt, Understood};
 
-use octets::{Access, Data, Enclosed, Entries, Fault, Form, Heading, Listing, Span, Written};
-use resources::{Allocation, AllocationRead};
-use tags::Key;
+use octets::{Access, Entries, Fault, Form, Heading, Span, Taken, Written};
+use resources::Allocation;
 
 // What a request asks. A single operation carries its access; in a bulk list each entry has its own, and the operation says whether the entries have passwords.
 #[derive(Clone, Copy)]
@@ -30,39 +30,27 @@ pub enum Operation {
 }
 
 #[derive(Clone, Copy)]
-pub enum Request {
-    Message { version: u8, operation: Operation },
-    Bad(Fault),
-}
-
-#[derive(Clone, Copy)]
-enum Decoded {
-    Good(Operation),
-    Bad(Fault),
+pub struct Request {
+    pub version: u8,
+    pub operation: Operation,
 }
 
 // The request that octets are.
-pub fn read_request(s: &[u8]) -> Request
+pub fn read_request(s: &[u8]) -> Result<Request, Fault>
     ensures { Understood s.now result }
 {
     if 2048 < s.len() {
-        return Request::Bad(Fault::Other);
+        return Err(Fault::Other);
     }
-    let Heading::Of { version, kind } = octets::read_heading(s) else {
-        return Request::Bad(Fault::Other);
-    };
-    match octets::read_enclosed(s) {
-        Enclosed::Bad(fault) => Request::Bad(fault),
-        Enclosed::From(at) => match read_body(s, at, kind) {
-            Decoded::Bad(fault) => Request::Bad(fault),
-            Decoded::Good(operation) => Request::Message { version, operation },
-        },
-    }
+    let Heading { version, kind } = octets::read_heading(s)?;
+    let at = octets::read_enclosed(s)?;
+    let operation = read_body(s, at, kind)?;
+    Ok(Request { version, operation })
 }
 
 // The body of an operation type, from a place to the last octet. A single operation is read by one call, which the compiler puts here, so that what it returns is not
 // stored and copied; a list by two, in each of which the form is known: its entries are gone over quicker.
-fn read_body(s: &[u8], at: usize, kind: u8) -> Decoded
+fn read_body(s: &[u8], at: usize, kind: u8) -> Result<Operation, Fault>
     ensures { DecodedAt kind s.now at result }
 {
     let form = form_at(kind);
@@ -76,7 +64,7 @@ fn read_body(s: &[u8], at: usize, kind: u8) -> Decoded
         6 => read_bulk_write(s, at, Form::Plain),
         69 => read_bulk_read(s, at, Form::Password),
         70 => read_bulk_write(s, at, Form::Password),
-        7..=64 | 71..=255 => Decoded::Bad(Fault::Other),
+        7..=64 | 71..=255 => Err(Fault::Other),
     }
 }
 
@@ -91,20 +79,23 @@ fn form_at(kind: u8) -> Form
     }
 }
 
+// What an operation type with passwords is more than the plain one.
+pub fn form_number(form: Form) -> u8
+    ensures { (result ≡ form_number form) × (result ≤ 64) }
+{
+    match form {
+        Form::Plain => 0,
+        Form::Password => 64,
+    }
+}
+
 // ---- resource information
 
-fn read_resources(s: &[u8], at: usize) -> Decoded
+fn read_resources(s: &[u8], at: usize) -> Result<Operation, Fault>
     ensures { DecodedAs c.resource_information Form.Plain s.now at result }
 {
-    match lists::read_keys(s, at, Form::Plain) {
-        Listing::Bad(fault) => Decoded::Bad(fault),
-        Listing::Value { list, next } => {
-            if next < s.len() {
-                return Decoded::Bad(Fault::Other); // octets behind the last entry
-            }
-            Decoded::Good(Operation::Resources(list))
-        }
-    }
+    let list = lists::read_keys(s, at, Form::Plain)?.to_end(s)?;
+    Ok(Operation::Resources(list))
 }
 
 // Asks for resource information of tags.
@@ -116,18 +107,11 @@ pub fn write_resources(out: &mut [u8], version: u8, tags: &[u64]) -> Written
 
 // ---- allocate
 
-fn read_allocate(s: &[u8], at: usize, form: Form) -> Decoded
+fn read_allocate(s: &[u8], at: usize, form: Form) -> Result<Operation, Fault>
     ensures { DecodedAs c.allocate form s.now at result }
 {
-    match resources::read_allocation(s, at, form) {
-        AllocationRead::Bad(fault) => Decoded::Bad(fault),
-        AllocationRead::Value { allocation, next } => {
-            if next < s.len() {
-                return Decoded::Bad(Fault::Other);
-            }
-            Decoded::Good(Operation::Allocate(allocation))
-        }
-    }
+    let allocation = resources::read_allocation(s, at, form)?.to_end(s)?;
+    Ok(Operation::Allocate(allocation))
 }
 
 // Asks for an area of that size and mode; the initial value is sent along.
@@ -142,105 +126,67 @@ pub fn write_allocate(
 ) -> Written
     ensures { Does (request_sent (request version (form_of access) (b.allocate (record { tag = tag; mode = mode; size = size; access = access; initial = initial.now }))) out.old) result out.new }
 {
-    match access {
-        Access::Plain => resources::write_allocation(
-            out, version, 1, access, tag, mode, size, initial,
-        ),
-        Access::Password(_password) => resources::write_allocation(
-            out, version, 65, access, tag, mode, size, initial,
-        ),
-    }
+    let kind = 1 + form_number(tags::form_of(access));
+    resources::write_allocation(out, version, kind, access, tag, mode, size, initial)
 }
 
 // ---- free
 
-fn read_free(s: &[u8], at: usize, form: Form) -> Decoded
+fn read_free(s: &[u8], at: usize, form: Form) -> Result<Operation, Fault>
     ensures { DecodedAs c.free form s.now at result }
 {
-    let Key::Value { access, tag, next } = tags::read_key(s, at, form) else {
-        return Decoded::Bad(Fault::Other);
-    };
-    if next < s.len() {
-        return Decoded::Bad(Fault::Other);
-    }
-    Decoded::Good(Operation::Free(access, tag))
+    let key = tags::read_key(s, at, form)?.to_end(s)?;
+    Ok(Operation::Free(key.access, key.tag))
 }
 
 pub fn write_free(out: &mut [u8], version: u8, access: Access, tag: u64) -> Written
     ensures { Does (request_sent (request version (form_of access) (b.free (tag, access))) out.old) result out.new }
 {
-    match access {
-        Access::Plain => tags::write_key(out, version, 2, access, tag),
-        Access::Password(_password) => tags::write_key(out, version, 66, access, tag),
-    }
+    let kind = 2 + form_number(tags::form_of(access));
+    tags::write_key(out, version, kind, access, tag)
 }
 
 // ---- read
 
-fn read_read(s: &[u8], at: usize, form: Form) -> Decoded
+fn read_read(s: &[u8], at: usize, form: Form) -> Result<Operation, Fault>
     ensures { DecodedAs c.read form s.now at result }
 {
-    let Key::Value { access, tag, next } = tags::read_key(s, at, form) else {
-        return Decoded::Bad(Fault::Other);
-    };
-    if next < s.len() {
-        return Decoded::Bad(Fault::Other);
-    }
-    Decoded::Good(Operation::Read(access, tag))
+    let key = tags::read_key(s, at, form)?.to_end(s)?;
+    Ok(Operation::Read(key.access, key.tag))
 }
 
 pub fn write_read(out: &mut [u8], version: u8, access: Access, tag: u64) -> Written
     ensures { Does (request_sent (request version (form_of access) (b.read (tag, access))) out.old) result out.new }
 {
-    match access {
-        Access::Plain => tags::write_key(out, version, 3, access, tag),
-        Access::Password(_password) => tags::write_key(out, version, 67, access, tag),
-    }
+    let kind = 3 + form_number(tags::form_of(access));
+    tags::write_key(out, version, kind, access, tag)
 }
 
 // ---- write
 
 // Memory data, read by its parts: tags::read_memory is too large to be inlined, and what it returns would be stored and copied on.
-fn read_write(s: &[u8], at: usize, form: Form) -> Decoded
+fn read_write(s: &[u8], at: usize, form: Form) -> Result<Operation, Fault>
     ensures { DecodedAs c.write form s.now at result }
 {
-    let Key::Value { access, tag, next } = tags::read_key(s, at, form) else {
-        return Decoded::Bad(Fault::Other);
-    };
-    match octets::read_data(s, next) {
-        Data::Bad(fault) => Decoded::Bad(fault),
-        Data::Value { span, next: end } => {
-            if end < s.len() {
-                return Decoded::Bad(Fault::Other);
-            }
-            Decoded::Good(Operation::Write(access, tag, span))
-        }
-    }
+    let Taken { value: key, next } = tags::read_key(s, at, form)?;
+    let span = octets::read_data(s, next)?.to_end(s)?;
+    Ok(Operation::Write(key.access, key.tag, span))
 }
 
 pub fn write_write(out: &mut [u8], version: u8, access: Access, tag: u64, src: &[u8]) -> Written
     ensures { Does (request_sent (request version (form_of access) (b.write ((tag, access), src.now))) out.old) result out.new }
 {
-    match access {
-        Access::Plain => tags::write_memory(out, version, 4, access, tag, src),
-        Access::Password(_password) => tags::write_memory(out, version, 68, access, tag, src),
-    }
+    let kind = 4 + form_number(tags::form_of(access));
+    tags::write_memory(out, version, kind, access, tag, src)
 }
 
 // ---- bulk read
 
-fn read_bulk_read(s: &[u8], at: usize, form: Form) -> Decoded
+fn read_bulk_read(s: &[u8], at: usize, form: Form) -> Result<Operation, Fault>
     ensures { DecodedAs c.bulk_read form s.now at result }
 {
-    match lists::read_keys(s, at, form) {
-        Listing::Bad(fault) => Decoded::Bad(fault),
-        Listing::Value { list, next } => {
-            if next < s.len() {
-                return Decoded::Bad(Fault::Other);
-            }
-            Decoded::Good(Operation::BulkRead(form, list))
-        }
-    }
+    let list = lists::read_keys(s, at, form)?.to_end(s)?;
+    Ok(Operation::BulkRead(form, list))
 }
 
 // A list of any number of tags, with a password each or plain: then no passwords are handed over. Where they are not one for every tag, 16.
@@ -253,26 +199,17 @@ pub fn write_bulk_read(
 ) -> Written
     ensures { Does (bulk_read_sent form version tags.now passwords.now out.old) result out.new }
 {
-    match form {
-        Form::Plain => lists::write_keys(out, version, 5, form, tags, passwords),
-        Form::Password => lists::write_keys(out, version, 69, form, tags, passwords),
-    }
+    let kind = 5 + form_number(form);
+    lists::write_keys(out, version, kind, form, tags, passwords)
 }
 
 // ---- bulk write
 
-fn read_bulk_write(s: &[u8], at: usize, form: Form) -> Decoded
+fn read_bulk_write(s: &[u8], at: usize, form: Form) -> Result<Operation, Fault>
     ensures { DecodedAs c.bulk_write form s.now at result }
 {
-    match lists::read_memories(s, at, form) {
-        Listing::Bad(fault) => Decoded::Bad(fault),
-        Listing::Value { list, next } => {
-            if next < s.len() {
-                return Decoded::Bad(Fault::Other);
-            }
-            Decoded::Good(Operation::BulkWrite(form, list))
-        }
-    }
+    let list = lists::read_memories(s, at, form)?.to_end(s)?;
+    Ok(Operation::BulkWrite(form, list))
 }
 
 // A list of any number of tags with data, and a password each or plain. The data of entry i is the part of `src` that starts at start i and has length i. Where the
@@ -289,12 +226,8 @@ pub fn write_bulk_write(
 ) -> Written
     ensures { Does (bulk_write_sent form version tags.now passwords.now starts.now lengths.now src.now out.old) result out.new }
 {
-    match form {
-        Form::Plain => lists::write_memories(
-            out, version, 6, form, tags, passwords, starts, lengths, src,
-        ),
-        Form::Password => lists::write_memories(
-            out, version, 70, form, tags, passwords, starts, lengths, src,
-        ),
-    }
+    let kind = 6 + form_number(form);
+    lists::write_memories(
+        out, version, kind, form, tags, passwords, starts, lengths, src,
+    )
 }

@@ -11,8 +11,7 @@ ghost use Rattle.tags.specs.Entry.{form_of};
 ghost use Rattle.resources.specs.Resource.{mode_known, allocation, room, resource, resources_of, resources_sent, every_mode};
 ghost use Rattle.resources.specs.View.{ModeAt, AllocationAt, RoomAt, ResourceAt, ResourcesAt};
 
-use octets::{Access, Data, Entries, Fault, Form, Length, Listing, Number, Span, Width, Written};
-use tags::Lock;
+use octets::{Access, Entries, Fault, Form, Reading, Span, Taken, Unwritten, Width, Written};
 
 // ---- modes
 
@@ -27,16 +26,15 @@ pub fn is_mode(code: u8) -> bool
 }
 
 // The mode code at a place.
-pub fn read_mode(s: &[u8], at: usize) -> Number
+pub fn read_mode(s: &[u8], at: usize) -> Reading<u8>
     ensures { ModeAt s.now at result }
 {
-    let Number::Value { n, next } = octets::read_number(s, at, Width::One) else {
-        return Number::Bad;
-    };
-    if is_mode(n as u8) {
-        return Number::Value { n, next };
+    let Taken { value, next } = octets::read_number(s, at, Width::One)?;
+    let code = value as u8;
+    if is_mode(code) {
+        return Ok(Taken { value: code, next });
     }
-    Number::Bad
+    Err(Fault::Other)
 }
 
 // ---- allocation
@@ -50,41 +48,38 @@ pub struct Allocation {
     pub initial: Span,
 }
 
-#[derive(Clone, Copy)]
-pub enum AllocationRead {
-    Value { allocation: Allocation, next: usize },
-    Bad(Fault),
-}
-
 // The body of an allocation, with a password where the form has one: the password stands behind the size.
-pub fn read_allocation(s: &[u8], at: usize, form: Form) -> AllocationRead
+pub fn read_allocation(s: &[u8], at: usize, form: Form) -> Reading<Allocation>
     ensures { AllocationAt s.now at form result }
 {
-    let Number::Value { n: tag, next: a } = octets::read_number(s, at, Width::Eight) else {
-        return AllocationRead::Bad(Fault::Other);
+    let Taken {
+        value: tag,
+        next: a,
+    } = octets::read_number(s, at, Width::Eight)?;
+    let Taken {
+        value: mode,
+        next: b,
+    } = read_mode(s, a)?;
+    let Taken {
+        value: size,
+        next: c,
+    } = octets::read_number(s, b, Width::Four)?;
+    let Taken {
+        value: access,
+        next: d,
+    } = tags::read_lock(s, c, form)?;
+    let Taken {
+        value: initial,
+        next,
+    } = octets::read_data(s, d)?;
+    let value = Allocation {
+        tag,
+        mode,
+        size: size as u32,
+        access,
+        initial,
     };
-    let Number::Value { n: mode, next: b } = read_mode(s, a) else {
-        return AllocationRead::Bad(Fault::Other);
-    };
-    let Number::Value { n: size, next: c } = octets::read_number(s, b, Width::Four) else {
-        return AllocationRead::Bad(Fault::Other);
-    };
-    let Lock::Value { access, next: d } = tags::read_lock(s, c, form) else {
-        return AllocationRead::Bad(Fault::Other);
-    };
-    match octets::read_data(s, d) {
-        Data::Bad(fault) => AllocationRead::Bad(fault),
-        Data::Value { span, next } => AllocationRead::Value {
-            allocation: Allocation {
-                tag,
-                mode: mode as u8,
-                size: size as u32,
-                access,
-                initial: span,
-            },
-            next,
-        },
-    }
+    Ok(Taken { value, next })
 }
 
 fn put_allocation(
@@ -121,20 +116,15 @@ pub fn write_allocation(
     ensures { Does (sent (allocation (form_of access)) version kind (record { tag = tag; mode = mode; size = size; access = access; initial = initial.now }) out.old) result out.new }
 {
     if !is_mode(mode) {
-        return Written::Refused;
+        return Err(Unwritten::Refused);
     }
     let n = initial.len();
     if 2048 < n {
-        return Written::Refused;
+        return Err(Unwritten::Refused);
     }
     let body = 13 + tags::lock_size(tags::form_of(access)) + octets::length_size(n) + n;
-    match octets::open_message(out, version, kind, body) {
-        Written::Refused => Written::Refused,
-        Written::NoRoom => Written::NoRoom,
-        Written::Done(at) => Written::Done(put_allocation(
-            out, at, access, tag, mode, size, initial,
-        )),
-    }
+    let at = octets::open_message(out, version, kind, body)?;
+    Ok(put_allocation(out, at, access, tag, mode, size, initial))
 }
 
 // ---- resource information
@@ -150,43 +140,32 @@ pub struct Room {
     pub entries: u16,
 }
 
-#[derive(Clone, Copy)]
-pub enum RoomRead {
-    Value { room: Room, next: usize },
-    Bad,
-}
-
 // The six numbers that resource information begins with.
-pub fn read_room(s: &[u8], at: usize) -> RoomRead
+pub fn read_room(s: &[u8], at: usize) -> Reading<Room>
     ensures { RoomAt s.now at result }
 {
-    let Number::Value { n: largest, next } = octets::read_number(s, at, Width::Four) else {
-        return RoomRead::Bad;
-    };
-    let Number::Value { n: tags, next } = octets::read_number(s, next, Width::Two) else {
-        return RoomRead::Bad;
-    };
-    let Number::Value { n: octets, next } = octets::read_number(s, next, Width::Four) else {
-        return RoomRead::Bad;
-    };
-    let Number::Value {
-        n: volatile_tags,
+    let Taken {
+        value: largest,
         next,
-    } = octets::read_number(s, next, Width::Two)
-    else {
-        return RoomRead::Bad;
-    };
-    let Number::Value {
-        n: volatile_octets,
+    } = octets::read_number(s, at, Width::Four)?;
+    let Taken { value: tags, next } = octets::read_number(s, next, Width::Two)?;
+    let Taken {
+        value: octets,
         next,
-    } = octets::read_number(s, next, Width::Four)
-    else {
-        return RoomRead::Bad;
-    };
-    let Number::Value { n: entries, next } = octets::read_number(s, next, Width::Two) else {
-        return RoomRead::Bad;
-    };
-    let room = Room {
+    } = octets::read_number(s, next, Width::Four)?;
+    let Taken {
+        value: volatile_tags,
+        next,
+    } = octets::read_number(s, next, Width::Two)?;
+    let Taken {
+        value: volatile_octets,
+        next,
+    } = octets::read_number(s, next, Width::Four)?;
+    let Taken {
+        value: entries,
+        next,
+    } = octets::read_number(s, next, Width::Two)?;
+    let value = Room {
         largest: largest as u32,
         tags: tags as u16,
         octets: octets as u32,
@@ -194,7 +173,7 @@ pub fn read_room(s: &[u8], at: usize) -> RoomRead
         volatile_octets: volatile_octets as u32,
         entries: entries as u16,
     };
-    RoomRead::Value { room, next }
+    Ok(Taken { value, next })
 }
 
 // What is told of one tag: its mode, its data size and its area size.
@@ -206,98 +185,79 @@ pub struct Resource {
     pub size: u32,
 }
 
-#[derive(Clone, Copy)]
-pub enum ResourceRead {
-    Value { resource: Resource, next: usize },
-    Bad,
-}
-
 // An entry of the list of resource information.
-pub fn read_resource(s: &[u8], at: usize) -> ResourceRead
+pub fn read_resource(s: &[u8], at: usize) -> Reading<Resource>
     ensures { ResourceAt s.now at result }
 {
-    let Number::Value { n: tag, next: a } = octets::read_number(s, at, Width::Eight) else {
-        return ResourceRead::Bad;
+    let Taken {
+        value: tag,
+        next: a,
+    } = octets::read_number(s, at, Width::Eight)?;
+    let Taken {
+        value: mode,
+        next: b,
+    } = read_mode(s, a)?;
+    let Taken {
+        value: held,
+        next: c,
+    } = octets::read_number(s, b, Width::Four)?;
+    let Taken { value: size, next } = octets::read_number(s, c, Width::Four)?;
+    let value = Resource {
+        tag,
+        mode,
+        held: held as u32,
+        size: size as u32,
     };
-    let Number::Value { n: mode, next: b } = read_mode(s, a) else {
-        return ResourceRead::Bad;
-    };
-    let Number::Value { n: held, next: c } = octets::read_number(s, b, Width::Four) else {
-        return ResourceRead::Bad;
-    };
-    let Number::Value { n: size, next } = octets::read_number(s, c, Width::Four) else {
-        return ResourceRead::Bad;
-    };
-    ResourceRead::Value {
-        resource: Resource {
-            tag,
-            mode: mode as u8,
-            held: held as u32,
-            size: size as u32,
-        },
-        next,
-    }
+    Ok(Taken { value, next })
 }
 
-fn walk_resources(s: &[u8], start: usize, count: usize) -> Listing
+fn walk_resources(s: &[u8], start: usize, count: usize) -> Reading<Entries>
     requires { start ≤ length s.now }
     ensures { Walked resource s.now start count result }
 {
     let mut at = start;
-    let mut i = 0;
-    while i < count {
-        let ResourceRead::Value { resource: _, next } = read_resource(s, at) else {
-            return Listing::Bad(Fault::Other);
-        };
-        at = next;
-        i += 1;
+    for _ in 0..count {
+        at = read_resource(s, at)?.next;
     }
-    Listing::Value {
-        list: Entries { start, count },
+    Ok(Taken {
+        value: Entries { start, count },
         next: at,
-    }
+    })
 }
 
+// The body of resource information: what a unit can take, and where the list of tags stands.
 #[derive(Clone, Copy)]
-pub enum ResourcesRead {
-    Value {
-        room: Room,
-        list: Entries,
-        next: usize,
-    },
-    Bad(Fault),
+pub struct Resources {
+    pub room: Room,
+    pub list: Entries,
 }
 
-// The body of resource information.
-pub fn read_resources(s: &[u8], at: usize) -> ResourcesRead
+pub fn read_resources(s: &[u8], at: usize) -> Reading<Resources>
     ensures { ResourcesAt s.now at result }
 {
-    let RoomRead::Value {
-        room,
+    let Taken {
+        value: room,
         next: counted,
-    } = read_room(s, at)
-    else {
-        return ResourcesRead::Bad(Fault::Other);
-    };
-    match octets::read_length(s, counted) {
-        Length::Bad(fault) => ResourcesRead::Bad(fault),
-        Length::Value { n, next: first } => match walk_resources(s, first, n) {
-            Listing::Bad(fault) => ResourcesRead::Bad(fault),
-            Listing::Value { list, next } => ResourcesRead::Value { room, list, next },
-        },
-    }
+    } = read_room(s, at)?;
+    let Taken {
+        value: count,
+        next: first,
+    } = octets::read_length(s, counted)?;
+    let Taken { value: list, next } = walk_resources(s, first, count)?;
+    Ok(Taken {
+        value: Resources { room, list },
+        next,
+    })
 }
 
 // Whether every mode code stands in the tables.
 fn are_modes(modes: &[u8]) -> bool
     ensures { result ≡ every_mode modes.now }
 {
-    let mut i = 0;
-    while i < modes.len() {
-        if !is_mode(modes[i]) {
+    for mode in modes {
+        if !is_mode(*mode) {
             return false;
         }
-        i += 1;
     }
     true
 }
@@ -336,10 +296,8 @@ fn put_resources(
     ensures { Wrote out.old at (put_all resource (resources_of tags.now modes.now held.now sizes.now)) out.new result }
 {
     let mut next = at;
-    let mut i = 0;
-    while i < tags.len() {
+    for i in 0..tags.len() {
         next = put_resource(out, next, tags[i], modes[i], held[i], sizes[i]);
-        i += 1;
     }
     next
 }
@@ -359,28 +317,23 @@ pub fn write_resources(
 {
     let n = tags.len();
     if modes.len() != n {
-        return Written::Refused;
+        return Err(Unwritten::Refused);
     }
     if held.len() != n {
-        return Written::Refused;
+        return Err(Unwritten::Refused);
     }
     if sizes.len() != n {
-        return Written::Refused;
+        return Err(Unwritten::Refused);
     }
     if !are_modes(modes) {
-        return Written::Refused;
+        return Err(Unwritten::Refused);
     }
     if 2048 < n {
-        return Written::Refused;
+        return Err(Unwritten::Refused);
     }
     let body = 18 + octets::length_size(n) + 17 * n;
-    match octets::open_message(out, version, kind, body) {
-        Written::Refused => Written::Refused,
-        Written::NoRoom => Written::NoRoom,
-        Written::Done(at) => {
-            let counted = put_room(out, at, x);
-            let first = octets::write_length(out, counted, n);
-            Written::Done(put_resources(out, first, tags, modes, held, sizes))
-        }
-    }
+    let at = octets::open_message(out, version, kind, body)?;
+    let counted = put_room(out, at, x);
+    let first = octets::write_length(out, counted, n);
+    Ok(put_resources(out, first, tags, modes, held, sizes))
 }

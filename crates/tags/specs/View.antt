@@ -1,59 +1,28 @@
 -- What the answers of this crate's readers say of the octets s, and where their positions lie. Together they leave one answer (proofs/Unique).
 use Rattle.std.specs.Prelude.{ℕ, ◌+◌, ◌≤◌, ◌≡◌, List, length, drop}
-use Rattle.octets.specs.Reading.{Read, bad, ok}
-use Rattle.octets.specs.View.{within}
+use Rattle.octets.specs.View.{Reading, Reads, within}
 use Rattle.octets.specs.declared.Access.{Access}
 use Rattle.octets.specs.declared.Form.{Form}
-use Rattle.octets.specs.declared.Fault.TheVariants.{Other}
 use Rattle.tags.specs.Entry.{Keyed, Held, lock, key, memory}
-use Rattle.tags.specs.declared.Lock.{Lock}
-use Rattle.tags.specs.declared.Lock.TheVariants as c
 use Rattle.tags.specs.declared.Key.{Key}
-use Rattle.tags.specs.declared.Key.TheVariants as k
 use Rattle.tags.specs.declared.Memory.{Memory}
-use Rattle.tags.specs.declared.Memory.TheVariants as m
 
--- a password that was read, or none, and the octets from the next place on
-abbrev pub lock_in : List ℕ → Lock → Read Access
-lock_in s (c.Value access next) = ok access (drop next s)
-lock_in s c.Bad = bad Other
+-- what reading a password at a place answers, or none in a plain message: the next place lies within s
+abbrev pub LockAt : List ℕ → ℕ → Form → Reading Access → Type 0
+LockAt s at w = Reads ((lock w).get (drop at s)) (λ a. a) (λ t. t.next ≤ length s) s
 
--- the next place lies within s
-abbrev pub LockPlace : List ℕ → Lock → Type 0
-LockPlace s (c.Value access next) = next ≤ length s
-LockPlace s c.Bad = Unit {0}
+-- a tag, and how the right to it is shown
+abbrev pub keyed : Key → Keyed
+keyed k = (k.tag, k.access)
 
--- what reading a password at a place answers
-pub record LockAt (s : List ℕ) (at : ℕ) (w : Form) (r : Lock) : Type 0 where
-  pub says : lock_in s r ≡ (lock w).get (drop at s)
-  pub place : LockPlace s r
+-- what reading a tag at a place answers: the next place lies within s
+abbrev pub KeyAt : List ℕ → ℕ → Form → Reading Key → Type 0
+KeyAt s at w = Reads ((key w).get (drop at s)) keyed (λ t. t.next ≤ length s) s
 
--- a tag that was read and its access, and the octets from the next place on
-abbrev pub key_in : List ℕ → Key → Read Keyed
-key_in s (k.Value access tag next) = ok (tag, access) (drop next s)
-key_in s k.Bad = bad Other
+-- such a tag, and its data, which stands in s
+abbrev pub held : List ℕ → Memory → Held
+held s m = ((m.tag, m.access), within s m.span)
 
--- the next place lies within s
-abbrev pub KeyPlace : List ℕ → Key → Type 0
-KeyPlace s (k.Value access tag next) = next ≤ length s
-KeyPlace s k.Bad = Unit {0}
-
--- what reading a tag at a place answers
-pub record KeyAt (s : List ℕ) (at : ℕ) (w : Form) (r : Key) : Type 0 where
-  pub says : key_in s r ≡ (key w).get (drop at s)
-  pub place : KeyPlace s r
-
--- memory data that was read, and the octets from the next place on; or the fault of its length
-abbrev pub memory_in : List ℕ → Memory → Read Held
-memory_in s (m.Value access tag p next) = ok ((tag, access), within s p) (drop next s)
-memory_in s (m.Bad f) = bad f
-
--- the next place is the data's end, and lies within s
-abbrev pub MemoryPlace : List ℕ → Memory → Type 0
-MemoryPlace s (m.Value access tag p next) = (p.start + p.len ≡ next) × (next ≤ length s)
-MemoryPlace s (m.Bad f) = Unit {0}
-
--- what reading memory data at a place answers
-pub record MemoryAt (s : List ℕ) (at : ℕ) (w : Form) (r : Memory) : Type 0 where
-  pub says : memory_in s r ≡ (memory w).get (drop at s)
-  pub place : MemoryPlace s r
+-- what reading memory data at a place answers: the next place is the data's end, and lies within s
+abbrev pub MemoryAt : List ℕ → ℕ → Form → Reading Memory → Type 0
+MemoryAt s at w = Reads ((memory w).get (drop at s)) (held s) (λ t. (t.value.span.start + t.value.span.len ≡ t.next) × (t.next ≤ length s)) s

@@ -9,41 +9,25 @@ ghost use Rattle.octets.specs.Frame.{sent};
 ghost use Rattle.tags.specs.Entry.{form_of, lock_size, lock, key, memory};
 ghost use Rattle.tags.specs.View.{LockAt, KeyAt, MemoryAt};
 
-use octets::{Access, Data, Fault, Form, Number, Span, Width, Written};
+use octets::{Access, Form, Reading, Span, Taken, Unwritten, Width, Written};
 
 // ---- a password, where the form has one
 
-#[derive(Clone, Copy)]
-pub enum Lock {
-    Value { access: Access, next: usize },
-    Bad,
-}
-
 // The password at a place, or none in a plain message. A place past the octets counts as their end.
-pub fn read_lock(s: &[u8], at: usize, form: Form) -> Lock
+pub fn read_lock(s: &[u8], at: usize, form: Form) -> Reading<Access>
     ensures { LockAt s.now at form result }
 {
     match form {
-        Form::Plain => {
-            if s.len() < at {
-                return Lock::Value {
-                    access: Access::Plain,
-                    next: s.len(),
-                };
-            }
-            Lock::Value {
-                access: Access::Plain,
-                next: at,
-            }
-        }
+        Form::Plain => Ok(Taken {
+            value: Access::Plain,
+            next: at.min(s.len()),
+        }),
         Form::Password => {
-            let Number::Value { n, next } = octets::read_number(s, at, Width::Eight) else {
-                return Lock::Bad;
-            };
-            Lock::Value {
-                access: Access::Password(n),
+            let Taken { value, next } = octets::read_number(s, at, Width::Eight)?;
+            Ok(Taken {
+                value: Access::Password(value),
                 next,
-            }
+            })
         }
     }
 }
@@ -80,31 +64,26 @@ pub fn form_of(access: Access) -> Form
 
 // ---- a tag
 
+// A tag, and how the right to it is shown.
 #[derive(Clone, Copy)]
-pub enum Key {
-    Value {
-        access: Access,
-        tag: u64,
-        next: usize,
-    },
-    Bad,
+pub struct Key {
+    pub access: Access,
+    pub tag: u64,
 }
 
 // A tag, and its password where the form has one. An entry of a list of tags is read so, too.
-pub fn read_key(s: &[u8], at: usize, form: Form) -> Key
+pub fn read_key(s: &[u8], at: usize, form: Form) -> Reading<Key>
     ensures { KeyAt s.now at form result }
 {
-    let Number::Value { n: tag, next } = octets::read_number(s, at, Width::Eight) else {
-        return Key::Bad;
-    };
-    let Lock::Value { access, next: end } = read_lock(s, next, form) else {
-        return Key::Bad;
-    };
-    Key::Value {
-        access,
-        tag,
+    let Taken { value: tag, next } = octets::read_number(s, at, Width::Eight)?;
+    let Taken {
+        value: access,
         next: end,
-    }
+    } = read_lock(s, next, form)?;
+    Ok(Taken {
+        value: Key { access, tag },
+        next: end,
+    })
 }
 
 // Writes a tag, and its password if there is one, if the area has room for both.
@@ -129,42 +108,37 @@ pub fn write_key(out: &mut [u8], version: u8, kind: u8, access: Access, tag: u64
     ensures { Does (sent (key (form_of access)) version kind (tag, access) out.old) result out.new }
 {
     let body = 8 + lock_size(form_of(access));
-    match octets::open_message(out, version, kind, body) {
-        Written::Refused => Written::Refused,
-        Written::NoRoom => Written::NoRoom,
-        Written::Done(at) => Written::Done(put_key(out, at, access, tag)),
-    }
+    let at = octets::open_message(out, version, kind, body)?;
+    Ok(put_key(out, at, access, tag))
 }
 
 // ---- memory data
 
+// A tag, how the right to it is shown, and where its data stands.
 #[derive(Clone, Copy)]
-pub enum Memory {
-    Value {
-        access: Access,
-        tag: u64,
-        span: Span,
-        next: usize,
-    },
-    Bad(Fault),
+pub struct Memory {
+    pub access: Access,
+    pub tag: u64,
+    pub span: Span,
 }
 
 // A tag, its password where the form has one, and data: where the data stands. An entry of a list of memory data is read so, too.
-pub fn read_memory(s: &[u8], at: usize, form: Form) -> Memory
+pub fn read_memory(s: &[u8], at: usize, form: Form) -> Reading<Memory>
     ensures { MemoryAt s.now at form result }
 {
-    let Key::Value { access, tag, next } = read_key(s, at, form) else {
-        return Memory::Bad(Fault::Other);
-    };
-    match octets::read_data(s, next) {
-        Data::Bad(fault) => Memory::Bad(fault),
-        Data::Value { span, next: end } => Memory::Value {
-            access,
-            tag,
+    let Taken { value: key, next } = read_key(s, at, form)?;
+    let Taken {
+        value: span,
+        next: end,
+    } = octets::read_data(s, next)?;
+    Ok(Taken {
+        value: Memory {
+            access: key.access,
+            tag: key.tag,
             span,
-            next: end,
         },
-    }
+        next: end,
+    })
 }
 
 // Writes memory data, if its length has a form and the area has room for all of it.
@@ -203,12 +177,9 @@ pub fn write_memory(
 {
     let n = src.len();
     if 2048 < n {
-        return Written::Refused;
+        return Err(Unwritten::Refused);
     }
     let body = 8 + lock_size(form_of(access)) + octets::length_size(n) + n;
-    match octets::open_message(out, version, kind, body) {
-        Written::Refused => Written::Refused,
-        Written::NoRoom => Written::NoRoom,
-        Written::Done(at) => Written::Done(put_memory(out, at, access, tag, src)),
-    }
+    let at = octets::open_message(out, version, kind, body)?;
+    Ok(put_memory(out, at, access, tag, src))
 }
