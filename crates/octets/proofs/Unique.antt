@@ -43,16 +43,16 @@ reads-unique {V} {A} {p} {shown} {Place} {s} {r} {t} ends same x y = go r t x.pl
 
 module _ {s : List ℕ} where
   -- read_length: one number and one next place, or one fault
-  pub length-unique : {at : ℕ} {r t : Reading ℕ} → LengthAt s at r → LengthAt s at t → r ≡ t
-  length-unique {at} p q = reads-unique (λ a h. h.1.0) (λ a b h k w e. e) p q
+  pub length-unique : (at : ℕ) {r t : Reading ℕ} → LengthAt s at r → LengthAt s at t → r ≡ t
+  length-unique at p q = reads-unique (λ a h. h.1) (λ a b h k w e. e) p q
 
   -- read_number: one number and one next place, or one fault
-  pub number-unique : {at : ℕ} {w : Width} {r t : Reading ℕ} → NumberAt s at w r → NumberAt s at w t → r ≡ t
-  number-unique {at} {w} p q = reads-unique (λ a h. h.0) (λ a b h k w e. e) p q
+  pub number-unique : (at : ℕ) (w : Width) {r t : Reading ℕ} → NumberAt s at w r → NumberAt s at w t → r ≡ t
+  number-unique at w p q = reads-unique (λ a h. h.0) (λ a b h k w e. e) p q
 
   -- read_data: one span and one next place, or one fault
-  pub data-unique : {at : ℕ} {r t : Reading Span} → DataAt s at r → DataAt s at t → r ≡ t
-  data-unique {at} p q = reads-unique (λ a h. h.1) (λ a b h k w e. span_same s a.value b.value h.0 (k.0 ∙ sym w) h.1 e) p q
+  pub data-unique : (at : ℕ) {r t : Reading Span} → DataAt s at r → DataAt s at t → r ≡ t
+  data-unique at p q = reads-unique (λ a h. h.1) (λ a b h k w e. span_same s a.value b.value h.0 (k.0 ∙ sym w) h.1 e) p q
 
   -- read_heading: one version and one operation type, or one fault
   pub heading-unique : {r t : Result Heading Fault} → HeadingOf s r → HeadingOf s t → r ≡ t
