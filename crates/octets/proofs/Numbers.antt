@@ -2,12 +2,13 @@
 use Prim.Native.Nat.{ℕ, zero, suc, ◌+◌, ◌-◌, ◌*◌, ◌/◌, ◌%◌, ◌^◌, ◌<◌, ◌≤◌}
 use mathlib.Core.Path.{◌≡◌, refl, sym, ap, ◌∙◌}
 use mathlib.Core.Bool.{Bool, true, false, cond}
-use mathlib.Core.List.{List, [], ◌∷◌, ◌++◌, reverse, reverse-cons, reverse-reverse}
+use mathlib.Core.List.{List, [], ◌∷◌, ◌++◌, append_assoc}
 use native.Mathlib.Omega.{arith}
 use native.Mathlib.Nat.{not-suc-le-zero, le_of_suc-le-suc, pow-suc, mul_assoc, mul_comm, add-zero, mul-add-div_right, lt_of_lt_of_le, mod-eq_of_lt, div-div-eq-div-mul}
 use native.Mathlib.Numerals.{add-one}
 use lib.ListN.{length, get_or, set, take, drop, length-reverse, length-append, length-take, length-drop, take-append-drop}
-use lib.Seq.{take-suc, drop-cons, sets, length-take-le, get_or-drop, drop-drop, take_at, drop_at}
+use borrow.Rule.Slice.PartMut.{put_mid}
+use lib.Seq.{sets-eq, take-suc, drop-cons, sets, length-take-le, take_all, get_or-drop, drop-drop, take_at, drop_at}
 use lib.Arith.{digits_lt, digits_div, mod-mul}
 use lib.Dec.{lit<, leb}
 use borrow.Author.Tests.{le-leb, lt-leb, leb-true}
@@ -107,79 +108,37 @@ octets-number (a ∷ l) o =
     let m : a % 256 ≡ a = omega (arith, o 0) in
     rw (d, m, octets-above (length l) a (number l), octets-number l r)
 
--- ---- the octets of a number in the other order
-
-abbrev pub turn : ℕ → ℕ → ℕ
-turn n x = number (reverse (octets n x))
-
--- one octet more, as a loop turns it
-pub turn_step : (n x : ℕ) → turn (suc n) x ≡ turn n x * 256 + x / 256 ^ n % 256
+-- the low octets are the last
+pub octets-last : (k n x : ℕ) → drop k (octets (k + n) x) ≡ octets n x
 unfolding octets
-turn_step n x = rw (reverse-cons, number-snoc)
+octets-last zero n x = let e : 0 + n ≡ n = omega arith in rw e
+octets-last (suc k) n x = let e : suc k + n ≡ suc (k + n) = omega arith in rw e (octets-last k n x)
 
--- it is below 256 to their count
-turn-lt : (n x : ℕ) → turn n x < 256 ^ n
-unfolding octets number
-turn-lt zero x = omega arith
-turn-lt (suc n) x = rw (turn_step n x, pow256-suc n) (omega (arith, turn-lt n x))
+-- the octets of a number that eight hold
+pub octets-eight : (x : ℕ) → octets 8 x ≡ (x / 0x100_0000_0000_0000 % 256) ∷ (x / 0x1_0000_0000_0000 % 256) ∷ (x / 0x100_0000_0000 % 256) ∷ (x / 0x1_0000_0000 % 256) ∷ (x / 0x100_0000 % 256) ∷ (x / 0x1_0000 % 256) ∷ (x / 0x100 % 256) ∷ (x % 256) ∷ []
+unfolding octets
+octets-eight x = let e : x / 1 ≡ x = omega arith in rw e
 
--- seven octets or fewer leave room for one more
-pub turn_small : (n x : ℕ) → n ≤ 7 → turn n x < 256 ^ 7
-turn_small n x h = lt_of_lt_of_le (turn-lt n x) (pow256-mono n 7 h)
-
--- what is left of a number behind one octet more
-pub rest-step : (n x : ℕ) → x / 256 ^ n / 256 ≡ x / 256 ^ suc n
-rest-step n x = rw (pow256-suc n) (div-div-eq-div-mul x (256 ^ n) 256)
-
--- octets in the other order are octets
-octets-snoc : (l : List ℕ) (b : ℕ) → Octets l → b < 256 → Octets (l ++ (b ∷ []))
-octets-snoc [] b o h zero = h
-octets-snoc [] b o h (suc k) = lit< tt
-octets-snoc (a ∷ l) b o h zero = o 0
-octets-snoc (a ∷ l) b o h (suc k) = octets-snoc l b (λ j. o (suc j)) h k
-
-octets-reverse : (l : List ℕ) → Octets l → Octets (reverse l)
-octets-reverse [] o = o
-octets-reverse (a ∷ l) o = rw (reverse-cons a l) (octets-snoc (reverse l) a (octets-reverse l (λ k. o (suc k))) (o 0))
-
--- eight octets, turned twice
-pub turned-back : (l : List ℕ) → Octets l → length l ≡ 8 → turn 8 (number (reverse l)) ≡ number l
-turned-back l o e =
-    let n : length (reverse l) ≡ 8 = length-reverse l ∙ e in
-    let k : octets 8 (number (reverse l)) ≡ reverse l = rw n at (octets-number (reverse l) (octets-reverse l o)) in
-    rw (k, reverse-reverse l)
-
--- one octet more before those that are summed the last first
-number-before : (s : List ℕ) (at next i : ℕ) → next ≡ suc at → at < length s → number (reverse (take (suc i) (drop at s))) ≡ number (reverse (take i (drop next s))) * 256 + get_or s at 0
-number-before s at next i e h = rw (e, drop-cons s at 0 h, reverse-cons, number-snoc)
-
--- eight octets summed the last first
-pub number-eight : (s : List ℕ) (at : ℕ) → at + 8 ≤ length s
-    → number (reverse (take 8 (drop at s))) ≡ ((((((get_or s (at + 7) 0 * 256 + get_or s (at + 6) 0) * 256 + get_or s (at + 5) 0) * 256 + get_or s (at + 4) 0) * 256 + get_or s (at + 3) 0) * 256 + get_or s (at + 2) 0) * 256 + get_or s (at + 1) 0) * 256 + get_or s at 0
+-- eight octets, each by its worth
+pub number-eight : (s : List ℕ) → length s ≡ 8
+    → number s ≡ get_or s 0 0 * 0x100_0000_0000_0000 + get_or s 1 0 * 0x1_0000_0000_0000 + get_or s 2 0 * 0x100_0000_0000 + get_or s 3 0 * 0x1_0000_0000 + get_or s 4 0 * 0x100_0000 + get_or s 5 0 * 0x1_0000 + get_or s 6 0 * 0x100 + get_or s 7 0
 unfolding number
-number-eight s at h =
-    rw (
-      number-before s at (at + 1) 7 (omega arith) (omega arith),
-      number-before s (at + 1) (at + 2) 6 (omega arith) (omega arith),
-      number-before s (at + 2) (at + 3) 5 (omega arith) (omega arith),
-      number-before s (at + 3) (at + 4) 4 (omega arith) (omega arith),
-      number-before s (at + 4) (at + 5) 3 (omega arith) (omega arith),
-      number-before s (at + 5) (at + 6) 2 (omega arith) (omega arith),
-      number-before s (at + 6) (at + 7) 1 (omega arith) (omega arith),
-      number-before s (at + 7) (at + 8) 0 (omega arith) (omega arith),
+number-eight s h =
+    let z : number (take 0 s) ≡ 0 = refl in
+    let e : number s ≡ number (take 8 s) = ap number (sym (take_all 8 s (omega arith))) in
+    omega (
+      arith,
+      e,
+      z,
+      number_step s 0 0 (omega arith),
+      number_step s 0 1 (omega arith),
+      number_step s 0 2 (omega arith),
+      number_step s 0 3 (omega arith),
+      number_step s 0 4 (omega arith),
+      number_step s 0 5 (omega arith),
+      number_step s 0 6 (omega arith),
+      number_step s 0 7 (omega arith),
     )
-    (omega arith)
-
--- the last octet of a turned number is the first that is not stored yet, and the others are those behind it
-pub turn_last : (n x i : ℕ) → i < n → turn (n - i) x % 256 ≡ get_or (octets n x) i 0
-turn_last n x i h =
-    let e : n - i ≡ suc (n - 1 - i) = omega arith in
-    rw (octets-at n x i h, e, turn_step (n - 1 - i) x) (omega arith)
-
-pub turn-rest : (n x i : ℕ) → i < n → turn (n - i) x / 256 ≡ turn (n - (i + 1)) x
-turn-rest n x i h =
-    let e : n - i ≡ suc (n - (i + 1)) = omega arith in
-    rw (e, turn_step (n - (i + 1)) x) (omega arith)
 
 -- ---- a run of stores
 
@@ -193,6 +152,12 @@ pub sets-step : (l v : List ℕ) (at i : ℕ) → i < length v → set (sets l a
 sets-step l v at i h =
     let e : length (take i v) ≡ i = length-take-le i v (omega arith) in
     rw (add-one i, take-suc v i 0 h, sets-append, e)
+
+-- octets stored at once in the place of as many
+pub stored-at-once : (l v y : List ℕ) (at k : ℕ) → y ≡ v → k ≡ length v → at + k ≤ length l → put_mid at k l y ≡ sets l at v
+stored-at-once l v y at k e q h =
+    let g : at + length v ≤ length l = omega arith in
+    rw (e, q, sets-eq v l at g, drop-drop (length v) at l) (sym (append_assoc (take at l) v (drop (at + length v) l)))
 
 -- ---- masks
 

@@ -2,7 +2,7 @@
 // Rules: document 01, 'Messages' and 'Tags'. What each function means stands in specs/; no function asks anything of its caller.
 #![tactic(auto)]
 
-ghost use Rattle.std.specs.Prelude.{◌≡◌, ◌+◌, ◌-◌, ◌≤◌, length, take, drop};
+ghost use Rattle.std.specs.Prelude.{◌≡◌, ◌+◌, ◌-◌, ◌^◌, ◌<◌, ◌≤◌, length, take, drop};
 ghost use Rattle.octets.specs.Length.{encode_length};
 ghost use Rattle.octets.specs.Layout.{field_octets, size};
 ghost use Rattle.octets.specs.Number.{number, octets, width_of, version_part, fill_part, bare};
@@ -135,32 +135,7 @@ impl<'a> Reader<'a> {
     pub fn length(self) -> Reading<usize>
         ensures { LengthAt self.entry.src.now self.entry.at result }
     {
-        let s = self.src;
-        let at = self.at;
-        if s.len() <= at {
-            return Err(Fault::Missing);
-        }
-        let a = s[at] as usize;
-        if a < 128 {
-            return Ok(Taken {
-                value: a,
-                next: at + 1,
-            });
-        }
-        if 192 <= a {
-            return Err(Fault::High);
-        }
-        if s.len() - at < 2 {
-            return Err(Fault::Missing);
-        }
-        let n = (a - 128) * 256 + s[at + 1] as usize;
-        if n <= 127 {
-            return Err(Fault::Longer);
-        }
-        Ok(Taken {
-            value: n,
-            next: at + 2,
-        })
+        length_of(self.src, self.at)
     }
 
     // The number of a field that stands there, high part first.
@@ -188,10 +163,33 @@ impl<'a> Reader<'a> {
     }
 }
 
+fn length_of(s: &[u8], at: usize) -> Reading<usize>
+    ensures { LengthAt s.now at result }
+{
+    if s.len() <= at {
+        return Err(Fault::Missing);
+    }
+    let a = s[at] as usize;
+    if a < 128 {
+        return Ok(Taken { value: a, next: at + 1 });
+    }
+    if 192 <= a {
+        return Err(Fault::High);
+    }
+    if s.len() - at < 2 {
+        return Err(Fault::Missing);
+    }
+    let n = (a - 128) * 256 + s[at + 1] as usize;
+    if n <= 127 {
+        return Err(Fault::Longer);
+    }
+    Ok(Taken { value: n, next: at + 2 })
+}
+
 // A number of at most eight octets, high part first.
 fn number_of(s: &[u8]) -> u64
     requires { length s.now ≤ 8 }
-    ensures { result ≡ number s.now }
+    ensures { (result ≡ number s.now) × (result < 256 ^ length s.now) }
 {
     if s.len() == 8 {
         return u64::from_be_bytes([s[0], s[1], s[2], s[3], s[4], s[5], s[6], s[7]]);

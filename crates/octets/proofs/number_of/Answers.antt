@@ -1,26 +1,41 @@
-use mathlib.Core.Path.{sym}
-use Prim.Native.Nat.{◌-◌, ◌≤◌}
 use native.Mathlib.Omega.{arith}
-use lib.ListN.{length}
+use Prim.Native.Nat.{◌+◌}
+use mathlib.Core.Path.{◌≡◌, refl, sym, ap, ◌∙◌}
+use lib.ListN.{take}
+use lib.Seq.{take_all}
+use Rattle.octets.specs.Number.{number}
 use Rattle.octets.specs.Reading.{Octets}
-use Rattle.octets.specs.Number.{width_of}
-use Rattle.octets.proofs.Numbers.{number_short, number_fits, number-below}
+use Rattle.octets.proofs.Numbers.{number_step, number_small, number_lt, number-eight}
 use Rattle.octets.proofs.number_of.Goals as goal
 
-pub returns-then-s-at : goal.returns-then-s-at
-returns-then-s-at c =
-    record { says = sym (number_short c.args.s.now c.args.at (width_of c.args.width) (omega (arith, c.octets_of-n.ensures))); place = tt }
+pub returns-then-s-eq8 : goal.returns-then-s-eq8
+returns-then-s-eq8 c =
+    let o : Octets c.args.s.now = λ k. (c.type_inv.s k).fits in
+    let e : c.from_be_bytes.result ≡ number c.args.s.now = c.from_be_bytes.ensures ∙ sym (number-eight c.args.s.now c.if-s-eq8.true) in
+    (e, rw e (number_lt c.args.s.now o))
 
-pub returns-then-s-at-2 : goal.returns-then-s-at-2
-returns-then-s-at-2 c =
-    record { says = sym (number_short c.args.s.now c.args.at (width_of c.args.width) (omega (arith, c.octets_of-n.ensures))); place = tt }
+pub loop-octet-init : goal.loop-octet-init
+unfolding number
+loop-octet-init c = refl
+
+pub overflow_mul-x : goal.overflow_mul-x
+overflow_mul-x c =
+    let o : Octets c.args.s.now = λ k. (c.type_inv.s k).fits in
+    omega (arith, number_small c.args.s.now 0 c.loop-octet.octet-index o (omega arith), c.loop-octet.invariant)
+
+pub overflow_add-x : goal.overflow_add-x
+overflow_add-x c =
+    let o : Octets c.args.s.now = λ k. (c.type_inv.s k).fits in
+    omega (arith, number_small c.args.s.now 0 c.loop-octet.octet-index o (omega arith), c.loop-octet.invariant, o c.loop-octet.octet-index)
+
+pub loop-octet-preserved : goal.loop-octet-preserved
+loop-octet-preserved c =
+    let z : 0 + c.loop-octet.octet-index ≡ c.loop-octet.octet-index = omega arith in
+    let e = rw z at (number_step c.args.s.now 0 c.loop-octet.octet-index (omega arith)) in
+    rw c.loop-octet.invariant (sym e)
 
 pub returns : goal.returns
 returns c =
     let o : Octets c.args.s.now = λ k. (c.type_inv.s k).fits in
-    let h : width_of c.args.width ≤ length c.args.s.now - c.args.at = omega (arith, c.octets_of-n.ensures.0) in
-    let e = rw c.octets_of-n.ensures.0 at c.sum_octets.ensures in
-    record {
-      says = rw (c.octets_of-n.ensures.0, e) (sym (number_fits c.args.s.now c.args.at (width_of c.args.width) h));
-      place = (omega arith, rw e (number-below c.args.s.now c.args.at (width_of c.args.width) o h));
-    }
+    let e : c.loop-octet.x ≡ number c.args.s.now = c.loop-octet.invariant ∙ ap number (take_all c.loop-octet.octet-index c.args.s.now (omega arith)) in
+    (e, rw e (number_lt c.args.s.now o))
