@@ -2,13 +2,14 @@
 use Prim.Native.Nat.{ℕ, zero, suc, ◌+◌, ◌-◌, ◌*◌, ◌/◌, ◌%◌, ◌^◌, ◌<◌, ◌≤◌}
 use mathlib.Core.Path.{◌≡◌, refl, sym, ap, ◌∙◌}
 use mathlib.Core.Bool.{Bool, true, false, cond}
-use mathlib.Core.List.{List, [], ◌∷◌, ◌++◌, append_assoc}
+use mathlib.Core.List.{List, [], ◌∷◌, ◌++◌, append_assoc, append-nil}
 use native.Mathlib.Omega.{arith}
-use native.Mathlib.Nat.{not-suc-le-zero, le_of_suc-le-suc, pow-suc, mul_assoc, mul_comm, add-zero, mul-add-div_right, lt_of_lt_of_le, mod-eq_of_lt, div-div-eq-div-mul}
+use native.Mathlib.Nat.{not-suc-le-zero, le_of_suc-le-suc, pow-suc, mul_assoc, mul_comm, add-zero, mul-add-div_right, lt_of_lt_of_le, mod-eq_of_lt}
 use native.Mathlib.Numerals.{add-one}
-use lib.ListN.{length, get_or, set, take, drop, length-reverse, length-append, length-take, length-drop, take-append-drop}
+use lib.ListN.{replicate, length, get_or, set, take, drop, length-append, length-take, length-drop, take-append-drop, drop_of_length-le}
+use Rattle.std.proofs.lemmas.List.{take-replicate}
 use borrow.Rule.Slice.PartMut.{put_mid}
-use lib.Seq.{sets-eq, take-suc, drop-cons, sets, length-take-le, take_all, get_or-drop, drop-drop, take_at, drop_at}
+use lib.Seq.{sets-eq, take-suc, sets, length-take-le, take_all, get_or-drop, drop-drop, take_at, drop_at}
 use lib.Arith.{digits_lt, digits_div, mod-mul}
 use lib.Dec.{lit<, leb}
 use borrow.Author.Tests.{le-leb, lt-leb, leb-true}
@@ -158,6 +159,21 @@ pub stored-at-once : (l v y : List ℕ) (at k : ℕ) → y ≡ v → k ≡ lengt
 stored-at-once l v y at k e q h =
     let g : at + length v ≤ length l = omega arith in
     rw (e, q, sets-eq v l at g, drop-drop (length v) at l) (sym (append_assoc (take at l) v (drop (at + length v) l)))
+
+-- zeros before the octets of a number
+number-zeros : (k : ℕ) (s : List ℕ) → number (replicate k 0 ++ s) ≡ number s
+unfolding number
+number-zeros zero s = refl
+number-zeros (suc k) s = rw (number-zeros k s) (omega arith)
+
+-- the octets of a number at the end of eight zeros
+pub at-end-of-zeros : (s : List ℕ) → length s ≤ 8 → number (put_mid (8 - length s) (8 - (8 - length s)) (replicate 8 0) s) ≡ number s
+at-end-of-zeros s h =
+    let n = length s in
+    let z : List ℕ = replicate 8 0 in
+    let t : take (8 - n) z ≡ replicate (8 - n) 0 = take-replicate (8 - n) 8 0 (omega arith) in
+    let d : drop (8 - (8 - n)) (drop (8 - n) z) ≡ [] = drop_of_length-le (drop (8 - n) z) (rw length-drop (omega arith)) in
+    rw (t, d, append-nil s) (number-zeros (8 - n) s)
 
 -- ---- masks
 

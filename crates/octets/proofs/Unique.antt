@@ -1,21 +1,20 @@
 -- Each promise of this crate leaves one outcome: any two that it allows are equal.
 -- The promises of length_size, octets_of, part, to_end, version_of, fill_of and bare_tag are themselves equations for the result.
 use mathlib.Core.Bool.{cond}
-use Prim.Native.Nat.{ℕ, ◌+◌, ◌≤◌}
+use Prim.Native.Nat.{ℕ, ◌≤◌}
 use Rattle.std.specs.Prelude.{Result, Ok, Err}
 use mathlib.Core.Path.{◌≡◌, refl, sym, ap, ◌∙◌}
 use mathlib.Core.List.{List}
-use lib.ListN.{length, drop}
+use lib.ListN.{length}
 use lib.Dec.{eqb}
-use Rattle.octets.specs.Reading.{Read, ok, bad}
+use Rattle.octets.specs.Reading.{Read}
 use Rattle.octets.specs.Area.{Outcome, done, refused, outcome, Written, Laid, Does}
-use Rattle.octets.specs.View.{Reading, read_in, IfTaken, Reads, within, LengthAt, NumberAt, DataAt, heading_in, HeadingOf, enclosed_in, EnclosedPlace, EnclosedOf}
+use Rattle.octets.specs.View.{Reading, read_in, IfTaken, Reads, LengthAt, NumberAt, DataAt, heading_in, HeadingOf, enclosed_in, EnclosedPlace, EnclosedOf}
 use Rattle.octets.specs.declared.Fault.{Fault}
 use Rattle.octets.specs.declared.Taken.{Taken}
 use Rattle.octets.specs.declared.Width.{Width}
 use Rattle.octets.specs.declared.Span.{Span}
 use Rattle.octets.specs.declared.Heading.{Heading}
-use Rattle.octets.specs.declared.Unwritten.{Unwritten}
 use Rattle.octets.specs.declared.Unwritten.TheVariants.{Refused, NoRoom}
 use Rattle.octets.proofs.Places.{drop-same, bad-ok, ok-val, ok-rest, bad-same}
 use Rattle.octets.proofs.Spans.{span_same}

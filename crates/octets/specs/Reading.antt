@@ -1,6 +1,6 @@
 -- What reading the front of a list of octets gives: a value and the octets behind it, or a fault and its kind.
 -- Document 01, 'Denials and their order': whatever does not decode is 16.
-use Rattle.std.specs.Prelude.{ℕ, ◌<◌, Bool, true, false, List, [], ◌∷◌, get_or}
+use Rattle.std.specs.Prelude.{ℕ, ◌<◌, List, [], ◌∷◌, get_or}
 use Rattle.octets.specs.declared.Fault.{Fault}
 use Rattle.octets.specs.declared.Fault.TheVariants.{Missing, Longer, High, Other}
 

@@ -171,7 +171,10 @@ fn length_of(s: &[u8], at: usize) -> Reading<usize>
     }
     let a = s[at] as usize;
     if a < 128 {
-        return Ok(Taken { value: a, next: at + 1 });
+        return Ok(Taken {
+            value: a,
+            next: at + 1,
+        });
     }
     if 192 <= a {
         return Err(Fault::High);
@@ -183,7 +186,10 @@ fn length_of(s: &[u8], at: usize) -> Reading<usize>
     if n <= 127 {
         return Err(Fault::Longer);
     }
-    Ok(Taken { value: n, next: at + 2 })
+    Ok(Taken {
+        value: n,
+        next: at + 2,
+    })
 }
 
 // A number of at most eight octets, high part first.
@@ -191,14 +197,9 @@ fn number_of(s: &[u8]) -> u64
     requires { length s.now ≤ 8 }
     ensures { (result ≡ number s.now) × (result < 256 ^ length s.now) }
 {
-    if s.len() == 8 {
-        return u64::from_be_bytes([s[0], s[1], s[2], s[3], s[4], s[5], s[6], s[7]]);
-    }
-    let mut x: u64 = 0;
-    for octet in s {
-        x = x * 256 + *octet as u64;
-    }
-    x
+    let mut eight = [0; 8];
+    eight[8 - s.len()..].copy_from_slice(s);
+    u64::from_be_bytes(eight)
 }
 
 // ---- the fields, at a place
@@ -257,47 +258,6 @@ pub fn length_size(n: usize) -> usize
 
 // ---- fields that are written: whole or not at all
 
-// Writes a length, if it has a form and the area has room for it, and says where the next field starts.
-pub fn write_length(out: &mut [u8], at: usize, n: usize) -> usize
-    ensures { Laid out.old at (field_octets size n) out.new result }
-{
-    if 16384 <= n {
-        return at;
-    }
-    if left_at(out, at) < length_size(n) {
-        return at;
-    }
-    if n < 128 {
-        out[at] = n as u8;
-        return at + 1;
-    }
-    let i = at + 1;
-    out[at] = (128 + n / 256) as u8;
-    out[i] = (n % 256) as u8;
-    at + 2
-}
-
-// Writes the low octets of a number, as many as its field has, if the area has room for all of them.
-pub fn write_number(out: &mut [u8], at: usize, width: Width, x: u64) -> usize
-    ensures { Laid out.old at (octets (width_of width) x) out.new result }
-{
-    let n = octets_of(width);
-    if left_at(out, at) < n {
-        return at;
-    }
-    put_number(&mut out[at..at + n], x);
-    at + n
-}
-
-// The octets become those of a number, as many as there are.
-fn put_number(out: &mut [u8], x: u64)
-    requires { length out.old ≤ 8 }
-    ensures { out.new ≡ octets (length out.old) x }
-{
-    let bytes = x.to_be_bytes();
-    out.copy_from_slice(&bytes[8 - out.len()..]);
-}
-
 // Copies octets to a place, if the area has room for all of them.
 pub fn copy(out: &mut [u8], at: usize, src: &[u8]) -> usize
     ensures { Laid out.old at src.now out.new result }
@@ -311,6 +271,27 @@ pub fn copy(out: &mut [u8], at: usize, src: &[u8]) -> usize
     }
     out[at..at + n].copy_from_slice(src);
     at + n
+}
+
+// Writes a length, if it has a form and the area has room for it, and says where the next field starts.
+pub fn write_length(out: &mut [u8], at: usize, n: usize) -> usize
+    ensures { Laid out.old at (field_octets size n) out.new result }
+{
+    if 16384 <= n {
+        return at;
+    }
+    if n < 128 {
+        return copy(out, at, &[n as u8]);
+    }
+    copy(out, at, &[(128 + n / 256) as u8, (n % 256) as u8])
+}
+
+// Writes the low octets of a number, as many as its field has, if the area has room for all of them.
+pub fn write_number(out: &mut [u8], at: usize, width: Width, x: u64) -> usize
+    ensures { Laid out.old at (octets (width_of width) x) out.new result }
+{
+    let eight = x.to_be_bytes();
+    copy(out, at, &eight[8 - octets_of(width)..])
 }
 
 // ---- bits of the version octet and of a tag

@@ -1,41 +1,20 @@
-use native.Mathlib.Omega.{arith}
-use Prim.Native.Nat.{◌+◌}
-use mathlib.Core.Path.{◌≡◌, refl, sym, ap, ◌∙◌}
-use lib.ListN.{take}
-use lib.Seq.{take_all}
+use mathlib.Core.Path.{◌≡◌, sym, ◌∙◌}
+use mathlib.Core.List.{List}
+use Prim.Native.Nat.{ℕ, ◌-◌}
+use borrow.Rule.Slice.PartMut.{put_mid, same_len_mid}
+use lib.ListN.{length, replicate}
 use Rattle.octets.specs.Number.{number}
 use Rattle.octets.specs.Reading.{Octets}
-use Rattle.octets.proofs.Numbers.{number_step, number_small, number_lt, number-eight}
+use Rattle.octets.proofs.Numbers.{number-eight, number_lt, at-end-of-zeros}
 use Rattle.octets.proofs.number_of.Goals as goal
-
-pub returns-then-s-eq8 : goal.returns-then-s-eq8
-returns-then-s-eq8 c =
-    let o : Octets c.args.s.now = λ k. (c.type_inv.s k).fits in
-    let e : c.from_be_bytes.result ≡ number c.args.s.now = c.from_be_bytes.ensures ∙ sym (number-eight c.args.s.now c.if-s-eq8.true) in
-    (e, rw e (number_lt c.args.s.now o))
-
-pub loop-octet-init : goal.loop-octet-init
-unfolding number
-loop-octet-init c = refl
-
-pub overflow_mul-x : goal.overflow_mul-x
-overflow_mul-x c =
-    let o : Octets c.args.s.now = λ k. (c.type_inv.s k).fits in
-    omega (arith, number_small c.args.s.now 0 c.loop-octet.octet-index o (omega arith), c.loop-octet.invariant)
-
-pub overflow_add-x : goal.overflow_add-x
-overflow_add-x c =
-    let o : Octets c.args.s.now = λ k. (c.type_inv.s k).fits in
-    omega (arith, number_small c.args.s.now 0 c.loop-octet.octet-index o (omega arith), c.loop-octet.invariant, o c.loop-octet.octet-index)
-
-pub loop-octet-preserved : goal.loop-octet-preserved
-loop-octet-preserved c =
-    let z : 0 + c.loop-octet.octet-index ≡ c.loop-octet.octet-index = omega arith in
-    let e = rw z at (number_step c.args.s.now 0 c.loop-octet.octet-index (omega arith)) in
-    rw c.loop-octet.invariant (sym e)
 
 pub returns : goal.returns
 returns c =
-    let o : Octets c.args.s.now = λ k. (c.type_inv.s k).fits in
-    let e : c.loop-octet.x ≡ number c.args.s.now = c.loop-octet.invariant ∙ ap number (take_all c.loop-octet.octet-index c.args.s.now (omega arith)) in
-    (e, rw e (number_lt c.args.s.now o))
+    let s = c.args.s.now in
+    let n = length s in
+    let a : List ℕ = put_mid (8 - n) (8 - (8 - n)) (replicate 8 0) c.copy_from_slice.new.self in
+    let l : length a ≡ 8 = same_len_mid (8 - n) (8 - (8 - n)) (replicate 8 0) c.copy_from_slice.new.self c.copy_from_slice.ensures.len in
+    let e : c.from_be_bytes.result ≡ number a = c.from_be_bytes.ensures ∙ sym (number-eight a l) in
+    let o : Octets s = λ k. (c.type_inv.s k).fits in
+    let r : c.from_be_bytes.result ≡ number s = rw c.copy_from_slice.ensures.after at e ∙ at-end-of-zeros s c.requires in
+    (r, rw r (number_lt s o))

@@ -1,9 +1,9 @@
-use mathlib.Core.Path.{◌≡◌, sym, ap, ◌∙◌}
-use Prim.Native.Nat.{◌+◌, ◌-◌, ◌≤◌, ◌<◌, ◌^◌}
+use mathlib.Core.Path.{◌≡◌, sym}
+use Prim.Native.Nat.{◌+◌, ◌-◌, ◌≤◌}
 use native.Mathlib.Omega.{arith}
 use lib.ListN.{length, take, drop, length-drop}
 use lib.Seq.{length-take-le}
-use Rattle.octets.specs.Number.{number, width_of}
+use Rattle.octets.specs.Number.{width_of}
 use Rattle.octets.proofs.Numbers.{number_short, number_fits}
 use Rattle.octets.proofs.Reader.number.Goals as goal
 
