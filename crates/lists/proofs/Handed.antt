@@ -12,7 +12,8 @@ use borrow.Author.Tests.{lt-ltb, le-leb, eqb-true, eq-eqb, ne_eqb}
 use Rattle.octets.specs.Length.{encode_length}
 use Rattle.octets.specs.Layout.{put_all, listed, list_of, every, field_octets}
 use Rattle.octets.specs.Area.{Outcome, Laid, Does, described, Wrote}
-use Rattle.octets.specs.declared.Written.TheVariants.{Refused}
+use Rattle.std.specs.Prelude.{Err, Some, None}
+use Rattle.octets.specs.declared.Unwritten.TheVariants.{Refused}
 use Rattle.octets.specs.declared.Access.{Access}
 use Rattle.octets.specs.declared.Form.{Form}
 use Rattle.octets.specs.declared.Form.TheVariants as f
@@ -22,7 +23,6 @@ use Rattle.octets.proofs.Sends.{sent-long, described-not}
 use Rattle.tags.specs.Entry.{form_of, lock_size, lock, Keyed, Held, key, memory}
 use Rattle.tags.proofs.Entries.{length-key, length-memory, key_fits, memory-fits}
 use Rattle.lists.specs.Handed.{agrees, access_at, key_at, keys_of, held_at, held_of, inside_at, belong, keys_sent, memories_sent, Measured}
-use Rattle.lists.specs.declared.Measure.TheVariants as m
 use Rattle.lists.proofs.Lists.{Ready, list_length}
 
 -- ---- passwords
@@ -50,7 +50,7 @@ key-at w ts ps i o u = key_fits w (get_or ts i 0) (access_at w ps i) (o i) (lock
 -- ---- a list of tags
 
 -- a message that would be refused is, whether the slices belong together or not
-described-refused : (b : Bool) (o : Outcome × List ℕ) (old : List ℕ) → Does o Refused old → Does (described b o old) Refused old
+described-refused : (b : Bool) (o : Outcome × List ℕ) (old : List ℕ) → Does o (Err Refused) old → Does (described b o old) (Err Refused) old
 described-refused true o old d = d
 described-refused false o old d = record { says = refl; area = refl }
 
@@ -74,11 +74,11 @@ module _ (w : Form) (ts ps : List ℕ) where
   key-some a = omega (arith, length-key w a)
 
   module _ (v k : ℕ) (old : List ℕ) where
-    pub keys-apart : agrees w (length ts) (length ps) ≡ false → Does (keys_sent w v k ts ps old) Refused old
+    pub keys-apart : agrees w (length ts) (length ps) ≡ false → Does (keys_sent w v k ts ps old) (Err Refused) old
     unfolding keys_sent
     keys-apart e = described-not _ _ old e
 
-    pub keys-many : 2048 < length ts → Does (keys_sent w v k ts ps old) Refused old
+    pub keys-many : 2048 < length ts → Does (keys_sent w v k ts ps old) (Err Refused) old
     unfolding keys_sent
     keys-many h =
         let m = put-many (key w) (key_at w ts ps) key-some (length ts) in
@@ -128,7 +128,7 @@ module _ (w : Form) (ts ps ss ls s : List ℕ) where
     unfolding belong
     together b g = rw (t, eq-eqb _ _ e, eq-eqb _ _ f, g)
 
-    pub memories-ready : {a b : ℕ} → Words ts → Words ps → a ≡ length (encode_length (length ts)) → Measured w ts ps ss ls s (length ts) (m.Octets b)
+    pub memories-ready : {a b : ℕ} → Words ts → Words ps → a ≡ length (encode_length (length ts)) → Measured w ts ps ss ls s (length ts) (Some b)
         → Ready (memory w) (held_at w ts ps ss ls s) (length ts) (belong w ts ps ss ls s) (a + b)
     memories-ready o u x z =
         let r : length (put_all (memory w) (held_of w ts ps ss ls s)) ≤ 2048 = rw (← z.2) z.1 in
@@ -139,24 +139,24 @@ module _ (w : Form) (ts ps ss ls s : List ℕ) where
           long = rw (x, z.2, list_length (memory w) (held_at w ts ps ss ls s) (length ts));
         }
 
-    pub unmeasured : (v k : ℕ) (old : List ℕ) → Measured w ts ps ss ls s (length ts) m.Refused → Does (memories_sent w v k ts ps ss ls s old) Refused old
+    pub unmeasured : (v k : ℕ) (old : List ℕ) → Measured w ts ps ss ls s (length ts) None → Does (memories_sent w v k ts ps ss ls s old) (Err Refused) old
     unfolding memories_sent
     unmeasured v k old (inl g) = described-not _ _ old (together false g)
     unmeasured v k old (inr g) = described-refused (belong w ts ps ss ls s) _ old (sent-long (list_of (memory w)) v k (held_of w ts ps ss ls s) old (omega (arith, list_length (memory w) (held_at w ts ps ss ls s) (length ts))))
 
   module _ (v k : ℕ) (old : List ℕ) where
-    apart : belong w ts ps ss ls s ≡ false → Does (memories_sent w v k ts ps ss ls s old) Refused old
+    apart : belong w ts ps ss ls s ≡ false → Does (memories_sent w v k ts ps ss ls s old) (Err Refused) old
     unfolding memories_sent
     apart e = described-not _ _ old e
 
-    pub passwords-apart : agrees w (length ts) (length ps) ≡ false → Does (memories_sent w v k ts ps ss ls s old) Refused old
+    pub passwords-apart : agrees w (length ts) (length ps) ≡ false → Does (memories_sent w v k ts ps ss ls s old) (Err Refused) old
     unfolding belong
     passwords-apart e = apart (rw e)
 
-    pub starts_apart : agrees w (length ts) (length ps) ≡ true → (length ss ≡ length ts → ⊥) → Does (memories_sent w v k ts ps ss ls s old) Refused old
+    pub starts_apart : agrees w (length ts) (length ps) ≡ true → (length ss ≡ length ts → ⊥) → Does (memories_sent w v k ts ps ss ls s old) (Err Refused) old
     unfolding belong
     starts_apart t e = apart (rw (t, ne_eqb _ _ e))
 
-    pub lengths-apart : agrees w (length ts) (length ps) ≡ true → length ss ≡ length ts → (length ls ≡ length ts → ⊥) → Does (memories_sent w v k ts ps ss ls s old) Refused old
+    pub lengths-apart : agrees w (length ts) (length ps) ≡ true → length ss ≡ length ts → (length ls ≡ length ts → ⊥) → Does (memories_sent w v k ts ps ss ls s old) (Err Refused) old
     unfolding belong
     lengths-apart t e f = apart (rw (t, eq-eqb _ _ e, ne_eqb _ _ f))

@@ -8,14 +8,16 @@ use lib.ListN.{length, length-append}
 use borrow.Author.Tests.{lt-ltb}
 use Rattle.octets.specs.Length.{encode_length}
 use Rattle.octets.specs.Layout.{Layout, size, field_octets, put_all, fit_all, listed, list_of}
-use Rattle.octets.specs.Area.{Laid, Does, described, Wrote}
+use Rattle.octets.specs.Area.{Laid, Written, Does, described, Wrote}
 use Rattle.octets.specs.Frame.{opened, sent}
-use Rattle.octets.specs.declared.Written.TheVariants.{Done, Refused, NoRoom}
+use Rattle.std.specs.Prelude.{Ok, Err, IsErrAnd}
+use Rattle.octets.specs.declared.Unwritten.{Unwritten}
 use Rattle.octets.proofs.Places.{both-are}
 use Rattle.octets.proofs.Lengths.{length-octets-are}
-use Rattle.octets.proofs.Areas.{wrote_none, wrote-more, wrote-sets, wrote-length, laid-all, open-room, sent-refused, sent-short}
+use Rattle.octets.proofs.Areas.{wrote_none, wrote-more, wrote-sets, wrote-length, laid-all, open-room}
 use Rattle.octets.proofs.Lists.{length-listed}
 use Rattle.octets.proofs.Sends.{sent-laid, described-is}
+use Rattle.tags.proofs.Entries.{sent-stopped}
 
 module _ {A : Type 0} (L : Layout A) (f : ℕ → A) (n : ℕ) where
   pub list_length : length ((list_of L).put (listed f n)) ≡ length (encode_length n) + length (put_all L (listed f n))
@@ -32,14 +34,12 @@ module _ {A : Type 0} {L : Layout A} {f : ℕ → A} {n : ℕ} {b : Bool} {body 
   ready-fits : (list_of L).fits (listed f n) ≡ true
   ready-fits = rw (length-listed f n) (both-are _ _ (lt-ltb n 16384 g.few) g.fit)
 
-  pub ready_refused : {new : List ℕ} → Does (opened v k body old) Refused new → Does (described b (sent (list_of L) v k (listed f n) old) old) Refused new
-  ready_refused d = described-is b _ old g.whole (sent-refused (list_of L) v k (listed f n) old body _ g.long d)
-
-  pub ready-short : {new : List ℕ} → Does (opened v k body old) NoRoom new → Does (described b (sent (list_of L) v k (listed f n) old) old) NoRoom new
-  ready-short d = described-is b _ old g.whole (sent-short (list_of L) v k (listed f n) old body _ g.long ready-fits d)
+  -- where the opening is not written, nothing is
+  pub ready-stopped : {e : Unwritten} {r : Written} {new : List ℕ} → Does (opened v k body old) (Err e) new → IsErrAnd r (λ y. y ≡ e) → Does (described b (sent (list_of L) v k (listed f n) old) old) r new
+  ready-stopped d i = described-is b _ old g.whole (sent-stopped (list_of L) v k (listed f n) old g.long ready-fits d i)
 
   -- behind the opening and the count
-  module _ {new y : List ℕ} {p q : ℕ} (d : Does (opened v k body old) (Done p) new) (l : Laid new p (field_octets size n) y q) where
+  module _ {new y : List ℕ} {p q : ℕ} (d : Does (opened v k body old) (Ok p) new) (l : Laid new p (field_octets size n) y q) where
     room : p + length (encode_length n) + length (put_all L (listed f n)) ≤ length new
     room = omega (arith, open-room v k body old new p d, list_length L f n, g.long)
 
@@ -51,7 +51,7 @@ module _ {A : Type 0} {L : Layout A} {f : ℕ → A} {n : ℕ} {b : Bool} {body 
     ready-room = omega (arith, room, counted.next, wrote-length counted)
 
     -- with the entries the message is done
-    pub ready-done : {z : List ℕ} {t : ℕ} → Wrote y q (put_all L (listed f n)) z t → Does (described b (sent (list_of L) v k (listed f n) old) old) (Done t) z
+    pub ready-done : {z : List ℕ} {t : ℕ} → Wrote y q (put_all L (listed f n)) z t → Does (described b (sent (list_of L) v k (listed f n) old) old) (Ok t) z
     ready-done {z} {t} w =
         let x = wrote-sets (put_all L (listed f n)) counted w.holds w.next in
         let j : p + length (encode_length n ++ put_all L (listed f n)) ≤ length new = omega (arith, room, length-append (encode_length n) (put_all L (listed f n))) in

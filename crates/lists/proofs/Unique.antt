@@ -5,27 +5,24 @@ use mathlib.Core.List.{List}
 use lib.ListN.{length, drop}
 use Rattle.octets.specs.Reading.{Octets}
 use Rattle.octets.specs.Layout.{Layout}
-use Rattle.octets.specs.View.{ListAt}
-use Rattle.octets.specs.declared.Listing.{Listing}
-use Rattle.octets.specs.declared.Listing.TheVariants.{Value, Bad}
-use Rattle.octets.proofs.Places.{drop-same, bad-ok, bad-same, ok-val, ok-rest}
+use Rattle.octets.specs.View.{Reading, entries_in, ListPlace, ListAt}
+use Rattle.octets.specs.declared.Entries.{Entries}
+use Rattle.octets.specs.declared.Taken.{Taken}
+use Rattle.octets.proofs.Places.{drop-same}
 use Rattle.octets.proofs.Spans.{list-spans}
 use Rattle.octets.proofs.Lawful.{Lawful}
-
-value_same : {a b i j m n : ℕ} → a ≡ b → i ≡ j → m ≡ n → Value (record { start = a; count = i }) m ≡ Value (record { start = b; count = j }) n
-value_same e f g = rw (e, f, g)
+use Rattle.octets.proofs.Unique.{reads-unique}
 
 module _ {A : Type 0} (L : Layout A) (P : Lawful L) (s : List ℕ) (o : Octets s) where
-  pub list-unique : (at : ℕ) (a b : Listing) → ListAt L s at a → ListAt L s at b → a ≡ b
-  list-unique at (Value x m) (Value y n) p q =
-      let e = p.says ∙ sym q.says in
-      let u = list-spans s L P o x (drop m s) p.place.2 in
-      let v = list-spans s L P o y (drop n s) q.place.2 in
-      let d : drop x.start s ≡ drop y.start s = u.0 ∙ rw (ok-val e, ok-rest e) (sym v.0) in
-      value_same
-      (drop-same s x.start y.start p.place.0 q.place.0 d)
-      (sym u.1 ∙ ap length (ok-val e) ∙ v.1)
-      (drop-same s m n p.place.1 q.place.1 (ok-rest e))
-  list-unique at (Bad f) (Bad g) p q = ap Bad (bad-same (p.says ∙ sym q.says))
-  list-unique at (Value x m) (Bad g) p q = absurd (bad-ok (q.says ∙ sym p.says))
-  list-unique at (Bad f) (Value y n) p q = absurd (bad-ok (p.says ∙ sym q.says))
+  -- lists that end at one place and have the same entries are one
+  list-same : (a b : Taken Entries) → ListPlace L s a → ListPlace L s b → a.next ≡ b.next → entries_in L s a.value ≡ entries_in L s b.value → a.value ≡ b.value
+  list-same a b h k n e =
+      let u = list-spans s L P o a.value (drop a.next s) h.2 in
+      let v = list-spans s L P o b.value (drop b.next s) k.2 in
+      let d : drop a.value.start s ≡ drop b.value.start s = u.0 ∙ rw (e, n) (sym v.0) in
+      let i = drop-same s a.value.start b.value.start h.0 k.0 d in
+      let c : a.value.count ≡ b.value.count = sym u.1 ∙ ap length e ∙ v.1 in
+      λ j. record { start = i j; count = c j }
+
+  pub list-unique : (at : ℕ) (a b : Reading Entries) → ListAt L s at a → ListAt L s at b → a ≡ b
+  list-unique at a b p q = reads-unique (λ t h. h.1) list-same p q

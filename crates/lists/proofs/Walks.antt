@@ -16,11 +16,10 @@ use Rattle.octets.specs.declared.Fault.TheVariants.{Other}
 use Rattle.octets.specs.declared.Access.TheVariants as a
 use Rattle.octets.specs.declared.Form.{Form}
 use Rattle.octets.specs.declared.Form.TheVariants as f
-use Rattle.octets.specs.View.{LengthAt, Walked, ListAt}
+use Rattle.octets.specs.View.{Reading, LengthAt, Walked, ListAt}
 use Rattle.octets.specs.declared.Fault.{Fault}
-use Rattle.octets.specs.declared.Length.TheVariants as l
-use Rattle.octets.specs.declared.Listing.{Listing}
-use Rattle.octets.specs.declared.Listing.TheVariants.{Value, Bad}
+use Rattle.octets.specs.declared.Entries.{Entries}
+use Rattle.std.specs.Prelude.{Ok, Err}
 use Rattle.octets.proofs.Places.{walk-on, forgot, forgot-bad}
 use Rattle.octets.proofs.Numbers.{number_short, number_fits}
 use Rattle.tags.specs.Entry.{lock_size, key}
@@ -29,16 +28,16 @@ use Rattle.tags.specs.Entry.{lock_size, key}
 
 module _ {A : Type 0} (L : Layout A) (s : List ℕ) where
   pub walked_to : (start n next : ℕ) → start ≤ length s → next ≤ length s → forget (entries L n (drop start s)) ≡ ok tt (drop next s)
-      → Walked L s start n (Value (record { start = start; count = n }) next)
+      → Walked L s start n (Ok (record { value = record { start = start; count = n }; next = next }))
   walked_to start n next h k e = record { says = sym (forgot (entries L n (drop start s)) (drop next s) (sym e)); place = (h, k, e) }
 
-  pub walked-bad : (start n : ℕ) (f : Fault) → forget (entries L n (drop start s)) ≡ bad f → Walked L s start n (Bad f)
+  pub walked-bad : (start n : ℕ) (f : Fault) → forget (entries L n (drop start s)) ≡ bad f → Walked L s start n (Err f)
   walked-bad start n f e = record { says = sym (forgot-bad (entries L n (drop start s)) f (sym e)); place = tt }
 
-  pub list-walked : {at n next : ℕ} {r : Listing} → LengthAt s at (l.Value n next) → Walked L s next n r → ListAt L s at r
+  pub list-walked : {at n next : ℕ} {r : Reading Entries} → LengthAt s at (Ok (record { value = n; next = next })) → Walked L s next n r → ListAt L s at r
   list-walked e w = record { says = rw (← e.says) w.says; place = w.place }
 
-  pub list-bad : {at : ℕ} {f : Fault} → LengthAt s at (l.Bad f) → ListAt L s at (Bad f)
+  pub list-bad : {at : ℕ} {f : Fault} → LengthAt s at (Err f) → ListAt L s at (Err f)
   list-bad e = record { says = rw (← e.says); place = tt }
 
 -- ---- entries that all take as many octets
@@ -89,8 +88,8 @@ key-even f.Password = record {
 
 -- a list of tags, by the code's test
 module _ (w : Form) (s : List ℕ) (at n : ℕ) {b : ℕ} (e : b ≡ lock_size w) where
-  pub keys-cut : length s - at < n * (8 + b) → Walked (key w) s at n (Bad Other)
+  pub keys-cut : length s - at < n * (8 + b) → Walked (key w) s at n (Err Other)
   keys-cut h = walked-bad (key w) s at n Other (even-cut (key w) (8 + lock_size w) (key-even w) s n at (rw (← e) h))
 
-  pub keys-all : at ≤ length s → n * (8 + b) ≤ length s - at → Walked (key w) s at n (Value (record { start = at; count = n }) (at + n * (8 + b)))
+  pub keys-all : at ≤ length s → n * (8 + b) ≤ length s - at → Walked (key w) s at n (Ok (record { value = record { start = at; count = n }; next = at + n * (8 + b) }))
   keys-all g h = walked_to (key w) s at n (at + n * (8 + b)) g (omega arith) (rw e (even-all (key w) (8 + lock_size w) (key-even w) s n at (rw (← e) h)))

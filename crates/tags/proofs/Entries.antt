@@ -9,14 +9,19 @@ use borrow.Author.Tests.{lt-ltb, le-ltb, ltb-true}
 use Rattle.octets.specs.Reading.{ok, and_then, Octets}
 use Rattle.octets.specs.Length.{encode_length}
 use Rattle.octets.specs.Number.{octets, decode_number}
-use Rattle.octets.specs.Layout.{numeral, data'}
-use Rattle.octets.specs.Area.{Wrote}
+use Rattle.std.specs.Prelude.{Ok, Err, IsErrAnd}
+use Rattle.octets.specs.Layout.{Layout, numeral, data'}
+use Rattle.octets.specs.Area.{Wrote, Written, Does}
+use Rattle.octets.specs.Frame.{opened, sent}
+use Rattle.octets.specs.declared.Unwritten.{Unwritten}
+use Rattle.octets.specs.declared.Unwritten.TheVariants.{Refused, NoRoom}
 use Rattle.octets.specs.declared.Access.{Access}
 use Rattle.octets.specs.declared.Access.TheVariants as a
 use Rattle.octets.specs.declared.Form.{Form}
 use Rattle.octets.specs.declared.Form.TheVariants as f
 use Rattle.octets.proofs.Places.{both-are, false-true, ok-val, ok-rest, went, here_end}
 use Rattle.octets.proofs.Numbers.{length-octets, number-there, number-back}
+use Rattle.octets.proofs.Areas.{sent-refused, sent-short}
 use Rattle.octets.proofs.Lawful.{Lawful, numeral-lawful, data-lawful, seq-lawful}
 use Rattle.tags.specs.Entry.{form_of, is_plain, secret, is_password, lock_size, lock, Keyed, Held, key, memory}
 
@@ -111,3 +116,14 @@ wrote-to q w e = record { holds = w.holds; next = e }
 
 pub past_end : (s : List ℕ) (at : ℕ) → length s < at → drop (length s) s ≡ drop at s
 past_end s at h = here_end s (length s) (omega arith) ∙ sym (here_end s at (omega arith))
+
+-- ---- a message that cannot be opened is not written, for the same reason
+
+module _ {A : Type 0} (L : Layout A) (v k : ℕ) (a : A) (old : List ℕ) {n : ℕ} {new : List ℕ} where
+  pub sent-stopped : {e : Unwritten} {r : Written} → n ≡ length (L.put a) → L.fits a ≡ true → Does (opened v k n old) (Err e) new → IsErrAnd r (λ y. y ≡ e) → Does (sent L v k a old) r new
+  sent-stopped {e} {r} h g d i = go e r d i
+    where
+      go : (e : Unwritten) (r : Written) → Does (opened v k n old) (Err e) new → IsErrAnd r (λ y. y ≡ e) → Does (sent L v k a old) r new
+      go e (Ok q) d i = absurd i
+      go Refused (Err y) d i = rw i (sent-refused L v k a old n new h d)
+      go NoRoom (Err y) d i = rw i (sent-short L v k a old n new h g d)

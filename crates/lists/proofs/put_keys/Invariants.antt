@@ -1,5 +1,3 @@
-use Prim.Native.Nat.{◌-◌, ◌≤◌}
-use lib.ListN.{length}
 use Rattle.octets.specs.Area.{Wrote}
 use Rattle.octets.specs.Layout.{put_all, listed}
 use Rattle.tags.specs.Entry.{key}
@@ -7,7 +5,4 @@ use Rattle.lists.specs.Handed.{key_at}
 use Rattle.lists.proofs.put_keys.Given as goal
 
 abbrev pub invariant-loop-i : goal.invariant-loop-i
-invariant-loop-i l = (l.i ≤ length l.tags) × Wrote l.initial.out l.at (put_all (key l.form) (listed (key_at l.form l.tags l.passwords) l.i)) l.out l.next
-
-abbrev pub decreases-loop-i : goal.decreases-loop-i
-decreases-loop-i l = length l.tags - l.i
+invariant-loop-i l = Wrote l.initial.out l.at (put_all (key l.form) (listed (key_at l.form l.tags l.passwords) l.i)) l.out l.next

@@ -19,20 +19,20 @@ returns-then-src-start-2 c =
 
 pub returns-then-n-gt2048 : goal.returns-then-n-gt2048
 returns-then-n-gt2048 c =
-    let g = measured-next c.args.form c.args.tags.now c.args.passwords.now c.args.starts.now c.args.lengths.now c.args.src.now c.loop-i.i c.if-src-start.false c.if-src-start-2.false c.loop-i.invariant.3 refl refl in
+    let g = measured-next c.args.form c.args.tags.now c.args.passwords.now c.args.starts.now c.args.lengths.now c.args.src.now c.loop-i.i c.if-src-start.false c.if-src-start-2.false c.loop-i.invariant.2 refl refl in
     inr (measured-over c.args.form c.args.tags.now c.args.passwords.now c.args.starts.now c.args.lengths.now c.args.src.now c.loop-i.i (omega arith) (omega arith))
 
 pub returns-then-size-gt2048 : goal.returns-then-size-gt2048
 returns-then-size-gt2048 c =
-    let g = measured-next c.args.form c.args.tags.now c.args.passwords.now c.args.starts.now c.args.lengths.now c.args.src.now c.loop-i.i c.if-src-start.false c.if-src-start-2.false c.loop-i.invariant.3 c.lock_size.ensures.0 c.length_size.ensures.0 in
+    let g = measured-next c.args.form c.args.tags.now c.args.passwords.now c.args.starts.now c.args.lengths.now c.args.src.now c.loop-i.i c.if-src-start.false c.if-src-start-2.false c.loop-i.invariant.2 c.lock_size.ensures.0 c.length_size.ensures.0 in
     inr (measured-over c.args.form c.args.tags.now c.args.passwords.now c.args.starts.now c.args.lengths.now c.args.src.now c.loop-i.i (omega arith) (omega arith))
 
 pub loop-i-preserved : goal.loop-i-preserved
 loop-i-preserved c =
-    let g = measured-next c.args.form c.args.tags.now c.args.passwords.now c.args.starts.now c.args.lengths.now c.args.src.now c.loop-i.i c.if-src-start.false c.if-src-start-2.false c.loop-i.invariant.3 c.lock_size.ensures.0 c.length_size.ensures.0 in
-    (omega arith, inside-next c.args.form c.args.tags.now c.args.passwords.now c.args.starts.now c.args.lengths.now c.args.src.now c.loop-i.i c.if-src-start.false c.if-src-start-2.false c.loop-i.invariant.1, c.if-size-gt2048.false, g)
+    let g = measured-next c.args.form c.args.tags.now c.args.passwords.now c.args.starts.now c.args.lengths.now c.args.src.now c.loop-i.i c.if-src-start.false c.if-src-start-2.false c.loop-i.invariant.2 c.lock_size.ensures.0 c.length_size.ensures.0 in
+    (inside-next c.args.form c.args.tags.now c.args.passwords.now c.args.starts.now c.args.lengths.now c.args.src.now c.loop-i.i c.if-src-start.false c.if-src-start-2.false c.loop-i.invariant.0, c.if-size-gt2048.false, g)
 
 pub returns : goal.returns
 returns c =
     let e : c.loop-i.i ≡ length c.args.tags.now = omega arith in
-    rw (← e) (c.loop-i.invariant.1, c.loop-i.invariant.2, c.loop-i.invariant.3)
+    rw (← e) (c.loop-i.invariant.0, c.loop-i.invariant.1, c.loop-i.invariant.2)

@@ -1,4 +1,4 @@
-use Prim.Native.Nat.{◌-◌, ◌≤◌}
+use Prim.Native.Nat.{◌≤◌}
 use mathlib.Core.Path.{◌≡◌}
 use mathlib.Core.Bool.{true}
 use lib.ListN.{length}
@@ -8,7 +8,4 @@ use Rattle.lists.specs.Handed.{held_at, inside_at}
 use Rattle.lists.proofs.sum_memories.Given as goal
 
 abbrev pub invariant-loop-i : goal.invariant-loop-i
-invariant-loop-i l = (l.i ≤ length l.tags) × (every (inside_at l.starts l.lengths l.src) l.i ≡ true) × (l.size ≤ 2048) × (l.size ≡ length (put_all (memory l.form) (listed (held_at l.form l.tags l.passwords l.starts l.lengths l.src) l.i)))
-
-abbrev pub decreases-loop-i : goal.decreases-loop-i
-decreases-loop-i l = length l.tags - l.i
+invariant-loop-i l = (every (inside_at l.starts l.lengths l.src) l.i ≡ true) × (l.size ≤ 2048) × (l.size ≡ length (put_all (memory l.form) (listed (held_at l.form l.tags l.passwords l.starts l.lengths l.src) l.i)))

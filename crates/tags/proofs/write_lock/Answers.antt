@@ -3,6 +3,3 @@ use Rattle.tags.proofs.write_lock.Goals as goal
 
 pub returns-in-Plain : goal.returns-in-Plain
 returns-in-Plain c = rw c.in-Plain.is (laid_none c.args.out.now c.args.at)
-
-pub returns-in-Password : goal.returns-in-Password
-returns-in-Password c = rw c.in-Password.is c.write_number.ensures
