@@ -1,5 +1,6 @@
-// Allocation and resource information: the two bodies with modes and sizes. Read in place; written with their frame into a lent area.
-// Rules: document 01, 'Messages', and tables 3.2-5 to 3.2-9 and 3.2-25; layouts in specs/Resource. On octets and tags, by their contracts.
+// Allocation and resource information: the two bodies with modes and sizes.
+// Read in place; written with their frame into a lent area. On octets and tags, by their contracts.
+// Rules: document 01, 'Messages', and tables 3.2-5 to 3.2-9 and 3.2-25; layouts in specs/Resource.
 #![tactic(auto)]
 
 ghost use Rattle.std.specs.Prelude.{◌≡◌, ◌+◌, ◌*◌, ◌≤◌, ◌<◌, length};
@@ -15,7 +16,9 @@ use octets::{Access, Entries, Fault, Form, Reading, Span, Taken, Unwritten, Widt
 
 // ---- modes
 
-// Whether a mode code stands in the tables: bit 2 SPF required, bit 1 writing prohibited, bit 0 reading prohibited, never both; the others zero.
+// Whether a mode code stands in the tables: bit 2 SPF required, bit 1 writing prohibited, bit 0 reading prohibited,
+// never both; the others zero.
+// A mode stays its code: callers hand codes that the tables lack, and both writers' clauses answer 16 for those.
 #[tactic(auto, unfolding(crate::specs::Resource::mode_known))]
 pub fn is_mode(code: u8) -> bool
     ensures { result ≡ mode_known code }
@@ -28,11 +31,11 @@ pub fn read_mode(s: &[u8], at: usize) -> Reading<u8>
     ensures { ModeAt s.now at result }
 {
     let Taken { value, next } = octets::read_number(s, at, Width::One)?;
-    let code = value as u8;
-    if is_mode(code) {
-        return Ok(Taken { value: code, next });
+    let value = value as u8;
+    if !is_mode(value) {
+        return Err(Fault::Other);
     }
-    Err(Fault::Other)
+    Ok(Taken { value, next })
 }
 
 // ---- allocation
@@ -71,26 +74,6 @@ pub fn read_allocation(s: &[u8], at: usize, form: Form) -> Reading<Allocation>
     Ok(Taken { value, next })
 }
 
-fn put_allocation(
-    out: &mut [u8],
-    at: usize,
-    access: Access,
-    tag: u64,
-    mode: u8,
-    size: u32,
-    initial: &[u8],
-) -> usize
-    requires { (length initial.now < 16384) × (at + length ((allocation (form_of access)).put (record { tag = tag; mode = mode; size = size; access = access; initial = initial.now })) ≤ length out.old) }
-    ensures { Wrote out.old at ((allocation (form_of access)).put (record { tag = tag; mode = mode; size = size; access = access; initial = initial.now })) out.new result }
-{
-    let next = octets::write_number(out, at, Width::Eight, tag);
-    let next = octets::write_number(out, next, Width::One, mode as u64);
-    let next = octets::write_number(out, next, Width::Four, size as u64);
-    let next = tags::write_lock(out, next, access);
-    let next = octets::write_length(out, next, initial.len());
-    octets::copy(out, next, initial)
-}
-
 // A message whose body is an allocation.
 pub fn write_allocation(
     out: &mut [u8],
@@ -109,13 +92,19 @@ pub fn write_allocation(
         return Err(Unwritten::Refused);
     }
     let body = 13 + tags::lock_size(tags::form_of(access)) + octets::length_size(n) + n;
-    let at = octets::open_message(out, version, kind, body)?;
-    Ok(put_allocation(out, at, access, tag, mode, size, initial))
+    let next = octets::open_message(out, version, kind, body)?;
+    let next = octets::write_number(out, next, Width::Eight, tag);
+    let next = octets::write_number(out, next, Width::One, mode as u64);
+    let next = octets::write_number(out, next, Width::Four, size as u64);
+    let next = tags::write_lock(out, next, access);
+    let next = octets::write_length(out, next, n);
+    Ok(octets::copy(out, next, initial))
 }
 
 // ---- resource information
 
-// What a unit can take: the largest message, the remaining tags and octets of non-volatile and of volatile memory, and the most entries of a bulk list.
+// What a unit can take: the largest message, the remaining tags and octets of non-volatile and of volatile memory,
+// and the most entries of a bulk list.
 #[derive(Clone, Copy)]
 pub struct Room {
     pub largest: u32,
@@ -256,10 +245,14 @@ fn put_resources(
     held: &[u32],
     sizes: &[u32],
 ) -> usize
-    requires { (length modes.now ≡ length tags.now) × (length held.now ≡ length tags.now) × (length sizes.now ≡ length tags.now) × (at + 17 * length tags.now ≤ length out.old) }
+    requires modes_too { length modes.now ≡ length tags.now }
+    requires held_too { length held.now ≡ length tags.now }
+    requires sizes_too { length sizes.now ≡ length tags.now }
+    requires room { at + 17 * length tags.now ≤ length out.old }
     ensures { Wrote out.old at (put_all resource (resources_of tags.now modes.now held.now sizes.now)) out.new result }
 {
     let mut next = at;
+    // By place, since four slices zipped give a pair within a pair within a pair, which is no plainer.
     for i in 0..tags.len() {
         let x = Resource {
             tag: tags[i],
@@ -273,6 +266,7 @@ fn put_resources(
 }
 
 // A message whose body is resource information: entry i tells of tag i, with mode i, data size i and area size i.
+// The slices stay side by side: `resources_sent` has 16 for slices that are not of one length.
 pub fn write_resources(
     out: &mut [u8],
     version: u8,
@@ -293,8 +287,8 @@ pub fn write_resources(
         return Err(Unwritten::Refused);
     }
     let body = 18 + octets::length_size(n) + 17 * n;
-    let at = octets::open_message(out, version, kind, body)?;
-    let next = put_room(out, at, x);
+    let next = octets::open_message(out, version, kind, body)?;
+    let next = put_room(out, next, x);
     let next = octets::write_length(out, next, n);
     Ok(put_resources(out, next, tags, modes, held, sizes))
 }

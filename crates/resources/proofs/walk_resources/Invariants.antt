@@ -8,6 +8,3 @@ use Rattle.resources.proofs.walk_resources.Given as goal
 
 abbrev pub invariant-loop : goal.invariant-loop
 invariant-loop l = (l.counter ≤ l.count) × (l.at ≤ length l.s) × (forget (entries resource l.count (drop l.start l.s)) ≡ forget (entries resource (l.count - l.counter) (drop l.at l.s)))
-
-abbrev pub decreases-loop : goal.decreases-loop
-decreases-loop l = l.count - l.counter

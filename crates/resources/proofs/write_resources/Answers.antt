@@ -52,16 +52,16 @@ returns-then-not-are_modes c =
       | then-not-are_modes-via-else-not-are_modes+then-n-gt2048 w ↦ sent-long _ _ _ _ _ (omega (arith, l, w.if-n-gt2048.true))
     ])
 
-pub returns-in_err-at : goal.returns-in_err-at
-returns-in_err-at c =
+pub returns-in_err-next : goal.returns-in_err-next
+returns-in_err-next c =
     let l = length-resources c.args.tags.now c.args.modes.now c.args.held.now c.args.sizes.now c.args.x in
     let r = room_fits c.args.x (omega arith) (omega arith) (omega arith) (omega arith) (omega arith) (omega arith) in
     let f = resources-fit c.args.tags.now c.args.modes.now c.args.held.now c.args.sizes.now c.args.x r (omega arith) c.if-modes-n.false (sym c.are_modes.ensures ∙ c.if-not-are_modes.false)
     (λ i. (c.type_inv.tags i).fits) (λ i. (c.type_inv.modes i).fits) (λ i. (c.type_inv.held i).fits) (λ i. (c.type_inv.sizes i).fits) in
-    told _ _ _ _ _ _ _ _ c.if-modes-n.false c.if-held-n.false c.if-sizes-n.false (sent-stopped _ _ _ _ _ (rw l (omega arith)) f c.in_err-at.ensures c.from_residual.ensures.1)
+    told _ _ _ _ _ _ _ _ c.if-modes-n.false c.if-held-n.false c.if-sizes-n.false (sent-stopped _ _ _ _ _ (rw l (omega arith)) f c.in_err-next.ensures c.from_residual.ensures.1)
 
 pub put_room-next-requires : goal.put_room-next-requires
-put_room-next-requires c = omega (arith, open-room _ _ _ _ _ _ c.in_ok-at.ensures)
+put_room-next-requires c = omega (arith, open-room _ _ _ _ _ _ c.in_ok-next.ensures)
 
 -- the count stands behind the room, and behind it there is room for the entries
 counted : (x : Room) (r : List Resource) {old new end : List ℕ} {n at p q : ℕ} → length r ≡ n → at + (18 + length (encode_length n) + 17 * n) ≤ length old
@@ -74,10 +74,10 @@ pub put_resources-requires : goal.put_resources-requires
 put_resources-requires c =
     let t = c.args.tags.now in
     let r : List Resource = resources_of t c.args.modes.now c.args.held.now c.args.sizes.now in
-    let o = open-room _ _ _ _ _ _ c.in_ok-at.ensures in
+    let o = open-room _ _ _ _ _ _ c.in_ok-next.ensures in
     let k = counted c.args.x r (length-listed (resource_at t c.args.modes.now c.args.held.now c.args.sizes.now) (length t)) (omega (arith, o)) c.put_room-next.ensures
     (rw (length-octets-are (length t) (omega arith)) at c.write_length-next.ensures) in
-    (c.if-modes-n.false, c.if-held-n.false, c.if-sizes-n.false, k.1)
+    record { modes_too = c.if-modes-n.false; held_too = c.if-held-n.false; sizes_too = c.if-sizes-n.false; room = k.1 }
 
 pub returns : goal.returns
 returns c =
@@ -87,9 +87,9 @@ returns c =
     (λ i. (c.type_inv.tags i).fits) (λ i. (c.type_inv.modes i).fits) (λ i. (c.type_inv.held i).fits) (λ i. (c.type_inv.sizes i).fits) in
     let t = c.args.tags.now in
     let a : List Resource = resources_of t c.args.modes.now c.args.held.now c.args.sizes.now in
-    let o = open-room _ _ _ _ _ _ c.in_ok-at.ensures in
+    let o = open-room _ _ _ _ _ _ c.in_ok-next.ensures in
     let k = counted c.args.x a (length-listed (resource_at t c.args.modes.now c.args.held.now c.args.sizes.now) (length t)) (omega (arith, o)) c.put_room-next.ensures
     (rw (length-octets-are (length t) (omega arith)) at c.write_length-next.ensures) in
     let v = wrote_then {w = put_all resource a} k.0 c.put_resources.ensures in
     let w = wrote_then {w = (list_of resource).put a} c.put_room-next.ensures v in
-    told _ _ _ _ _ _ _ _ c.if-modes-n.false c.if-held-n.false c.if-sizes-n.false (sent-wrote _ _ _ _ _ (rw l (omega arith)) f c.in_ok-at.ensures w)
+    told _ _ _ _ _ _ _ _ c.if-modes-n.false c.if-held-n.false c.if-sizes-n.false (sent-wrote _ _ _ _ _ (rw l (omega arith)) f c.in_ok-next.ensures w)
