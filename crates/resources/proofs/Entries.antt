@@ -6,10 +6,13 @@ use mathlib.Core.List.{List, [], ◌∷◌, ◌++◌}
 use native.Mathlib.Omega.{arith}
 use native.Mathlib.Nat.{not-suc-le-zero}
 use lib.Dec.{leb}
+use lib.ListN.{length, get_or}
 use borrow.Author.Tests.{leb-true, leb-false}
-use Rattle.octets.specs.Layout.{Layout, fit_all, listed, every}
+use Rattle.std.specs.List.{list_all}
+use Rattle.std.proofs.lemmas.List.Sums.{list_all-from_AllPass}
+use Rattle.std.proofs.lemmas.List.Elements.{All-from_get_or}
+use Rattle.octets.specs.Layout.{Layout, fit_all, listed}
 use Rattle.octets.proofs.Places.{both, both-are}
-use Rattle.octets.proofs.Lists.{every-is}
 
 module _ {A : Type 0} (L : Layout A) where
   fit-last : (es : List A) (a : A) → fit_all L (es ++ (a ∷ [])) ≡ true → (fit_all L es ≡ true) × (L.fits a ≡ true)
@@ -28,10 +31,11 @@ module _ {A : Type 0} (L : Layout A) where
         go true t b m = let q : i ≡ n = omega (arith, leb-true n i t) in rw q b
         go false t b m = m (leb-false _ _ t)
 
-    -- a test that every entry that fits passes, and some entry does not
-    pub unfit-listed : (p : ℕ → Bool) (n : ℕ) → ((i : ℕ) → L.fits (f i) ≡ true → p i ≡ true) → every p n ≡ false → fit_all L (listed f n) ≡ false
-    unfit-listed p n h e = go (fit_all L (listed f n)) refl
+    -- entries made of a list, with a test that an element of it passes if its entry fits: where some element fails, some entry does not fit
+    pub unfit-listed : {X : Type 0} (p : X → Bool) (xs : List X) (d : X) → ((i : ℕ) → L.fits (f i) ≡ true → p (get_or xs i d) ≡ true) → list_all p xs ≡ false
+        → fit_all L (listed f (length xs)) ≡ false
+    unfit-listed {X} p xs d h e = go (fit_all L (listed f (length xs))) refl
       where
-        go : (b : Bool) → fit_all L (listed f n) ≡ b → b ≡ false
-        go true t = let y : every p n ≡ true = every-is p n (λ i k. h i (fit_at n i t k)) in cc
+        go : (b : Bool) → fit_all L (listed f (length xs)) ≡ b → b ≡ false
+        go true t = let y : list_all p xs ≡ true = list_all-from_AllPass p xs (All-from_get_or (λ x. p x ≡ true) xs d (λ i k. h i (fit_at (length xs) i t k))) in cc
         go false t = refl

@@ -7,10 +7,12 @@ use native.Mathlib.Omega.{arith}
 use native.Mathlib.Numerals.{add-one}
 use lib.ListN.{length, length-append}
 use Rattle.octets.specs.Layout.{Layout, put_all, listed}
-use Rattle.octets.specs.Area.{Laid, Does, Wrote}
+use Rattle.octets.specs.Area.{Laid, Does, Wrote, Written}
+use Rattle.octets.specs.declared.Unwritten.{Unwritten}
+use Rattle.octets.specs.declared.Unwritten.TheVariants.{Refused, NoRoom}
 use Rattle.octets.specs.Frame.{opened, sent}
-use Rattle.octets.specs.declared.Written.TheVariants.{Done}
-use Rattle.octets.proofs.Areas.{laid-holds, laid-ends, wrote-length, wrote-sets, sent-done}
+use Rattle.std.specs.Prelude.{Ok, Err, IsErrAnd}
+use Rattle.octets.proofs.Areas.{laid-holds, laid-ends, wrote-length, wrote-sets, sent-refused, sent-short, sent-done}
 use Rattle.octets.proofs.Lists.{put-snoc}
 
 -- a field that has room
@@ -34,5 +36,15 @@ wrote-next L f i a b = rw (add-one i, put-snoc L (listed f i) (f i)) (wrote_then
 
 -- a body written behind its opening is the message sent
 pub sent-wrote : {A : Type 0} (L : Layout A) (v k : ℕ) (a : A) (old : List ℕ) {n p q : ℕ} {new y : List ℕ} → n ≡ length (L.put a) → L.fits a ≡ true
-    → Does (opened v k n old) (Done p) new → Wrote new p (L.put a) y q → Does (sent L v k a old) (Done q) y
+    → Does (opened v k n old) (Ok p) new → Wrote new p (L.put a) y q → Does (sent L v k a old) (Ok q) y
 sent-wrote L v k a old {n} {p} {q} {new} {y} e g d w = sent-done L v k a old n new e p q y g d w.holds (omega (arith, w.next, e))
+
+-- a message that cannot be opened is not written, for the same reason
+module _ {A : Type 0} (L : Layout A) (v k : ℕ) (a : A) (old : List ℕ) {n : ℕ} {new : List ℕ} where
+  pub sent-stopped : {e : Unwritten} {r : Written} → n ≡ length (L.put a) → L.fits a ≡ true → Does (opened v k n old) (Err e) new → IsErrAnd r (λ y. y ≡ e) → Does (sent L v k a old) r new
+  sent-stopped {e} {r} h g d i = go e r d i
+    where
+      go : (e : Unwritten) (r : Written) → Does (opened v k n old) (Err e) new → IsErrAnd r (λ y. y ≡ e) → Does (sent L v k a old) r new
+      go e (Ok q) d i = absurd i
+      go Refused (Err y) d i = rw i (sent-refused L v k a old n new h d)
+      go NoRoom (Err y) d i = rw i (sent-short L v k a old n new h g d)

@@ -1,5 +1,5 @@
 pub mod Fields
 pub mod Entries
-pub mod Resources
+pub mod Bodies
 pub mod Unique
 pub mod Table

@@ -35,7 +35,7 @@ tests =
     ∷ []
 
 pub tests-hold : map (λ (x : Bool × Bool). x.0) tests ≡ map (λ (x : Bool × Bool). x.1) tests
-unfolding mode_known every_mode alongside
+unfolding mode_known alongside
 tests-hold = refl
 
 -- the entries, in their order

@@ -1,7 +1,8 @@
 -- Allocation and resource information (tables 3.2-5 to 3.2-9 and 3.2-25). Allocation: tag, mode, size in four octets, the password where the form has one, initial value.
 -- Resource information: the largest message, remaining tags and octets twice, the bulk limit, and a list of tags with mode, data size and area size.
 use Rattle.std.specs.Prelude.{ℕ, Bool, ◌&&◌, ◌||◌, List, length, get_or, leb, eqb}
-use Rattle.octets.specs.Layout.{Layout, numeral, data', seq, via, only, listed, list_of, every}
+use Rattle.std.specs.List.{list_all}
+use Rattle.octets.specs.Layout.{Layout, numeral, data', seq, via, only, listed, list_of}
 use Rattle.octets.specs.Area.{Outcome, described}
 use Rattle.octets.specs.Frame.{sent}
 use Rattle.octets.specs.declared.Access.{Access}
@@ -82,8 +83,8 @@ abbrev pub resources_of : List ℕ → List ℕ → List ℕ → List ℕ → Li
 resources_of tags modes held sizes = listed (resource_at tags modes held sizes) (length tags)
 
 -- every mode code stands in the tables
-unfoldable pub every_mode : List ℕ → Bool
-every_mode modes = every (λ i. mode_known (get_or modes i 0)) (length modes)
+abbrev pub every_mode : List ℕ → Bool
+every_mode modes = list_all mode_known modes
 
 -- the slices are of one length
 unfoldable pub alongside : List ℕ → List ℕ → List ℕ → List ℕ → Bool

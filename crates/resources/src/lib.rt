@@ -1,5 +1,6 @@
-// Allocation and resource information: the two bodies with modes and sizes. Read in place; written with their frame into a lent area.
-// Rules: document 01, 'Messages', and tables 3.2-5 to 3.2-9 and 3.2-25; layouts in specs/Resource. On octets and tags, by their contracts.
+// Allocation and resource information: the two bodies with modes and sizes.
+// Read in place; written with their frame into a lent area. On octets and tags, by their contracts.
+// Rules: document 01, 'Messages', and tables 3.2-5 to 3.2-9 and 3.2-25; layouts in specs/Resource.
 #![tactic(auto)]
 
 ghost use Rattle.std.specs.Prelude.{◌≡◌, ◌+◌, ◌*◌, ◌≤◌, ◌<◌, length};
@@ -15,14 +16,14 @@ use octets::{Access, Entries, Fault, Form, Reading, Span, Taken, Unwritten, Widt
 
 // ---- modes
 
-// Whether a mode code stands in the tables: bit 2 SPF required, bit 1 writing prohibited, bit 0 reading prohibited, never both; the others zero.
+// Whether a mode code stands in the tables: bit 2 SPF required, bit 1 writing prohibited, bit 0 reading prohibited,
+// never both; the others zero.
+// A mode stays its code: callers hand codes that the tables lack, and both writers' clauses answer 16 for those.
+#[tactic(auto, unfolding(crate::specs::Resource::mode_known))]
 pub fn is_mode(code: u8) -> bool
     ensures { result ≡ mode_known code }
 {
-    match code {
-        0..=2 | 4..=6 => true,
-        3 | 7..=255 => false,
-    }
+    matches!(code, 0..=2 | 4..=6)
 }
 
 // The mode code at a place.
@@ -30,11 +31,11 @@ pub fn read_mode(s: &[u8], at: usize) -> Reading<u8>
     ensures { ModeAt s.now at result }
 {
     let Taken { value, next } = octets::read_number(s, at, Width::One)?;
-    let code = value as u8;
-    if is_mode(code) {
-        return Ok(Taken { value: code, next });
+    let value = value as u8;
+    if !is_mode(value) {
+        return Err(Fault::Other);
     }
-    Err(Fault::Other)
+    Ok(Taken { value, next })
 }
 
 // ---- allocation
@@ -52,26 +53,17 @@ pub struct Allocation {
 pub fn read_allocation(s: &[u8], at: usize, form: Form) -> Reading<Allocation>
     ensures { AllocationAt s.now at form result }
 {
-    let Taken {
-        value: tag,
-        next: a,
-    } = octets::read_number(s, at, Width::Eight)?;
-    let Taken {
-        value: mode,
-        next: b,
-    } = read_mode(s, a)?;
-    let Taken {
-        value: size,
-        next: c,
-    } = octets::read_number(s, b, Width::Four)?;
+    let Taken { value: tag, next } = octets::read_number(s, at, Width::Eight)?;
+    let Taken { value: mode, next } = read_mode(s, next)?;
+    let Taken { value: size, next } = octets::read_number(s, next, Width::Four)?;
     let Taken {
         value: access,
-        next: d,
-    } = tags::read_lock(s, c, form)?;
+        next,
+    } = tags::read_lock(s, next, form)?;
     let Taken {
         value: initial,
         next,
-    } = octets::read_data(s, d)?;
+    } = octets::read_data(s, next)?;
     let value = Allocation {
         tag,
         mode,
@@ -80,26 +72,6 @@ pub fn read_allocation(s: &[u8], at: usize, form: Form) -> Reading<Allocation>
         initial,
     };
     Ok(Taken { value, next })
-}
-
-fn put_allocation(
-    out: &mut [u8],
-    at: usize,
-    access: Access,
-    tag: u64,
-    mode: u8,
-    size: u32,
-    initial: &[u8],
-) -> usize
-    requires { (length initial.now < 16384) × (at + length ((allocation (form_of access)).put (record { tag = tag; mode = mode; size = size; access = access; initial = initial.now })) ≤ length out.old) }
-    ensures { Wrote out.old at ((allocation (form_of access)).put (record { tag = tag; mode = mode; size = size; access = access; initial = initial.now })) out.new result }
-{
-    let a = octets::write_number(out, at, Width::Eight, tag);
-    let b = octets::write_number(out, a, Width::One, mode as u64);
-    let c = octets::write_number(out, b, Width::Four, size as u64);
-    let d = tags::write_lock(out, c, access);
-    let e = octets::write_length(out, d, initial.len());
-    octets::copy(out, e, initial)
 }
 
 // A message whose body is an allocation.
@@ -115,21 +87,24 @@ pub fn write_allocation(
 ) -> Written
     ensures { Does (sent (allocation (form_of access)) version kind (record { tag = tag; mode = mode; size = size; access = access; initial = initial.now }) out.old) result out.new }
 {
-    if !is_mode(mode) {
-        return Err(Unwritten::Refused);
-    }
     let n = initial.len();
-    if 2048 < n {
+    if !is_mode(mode) || 2048 < n {
         return Err(Unwritten::Refused);
     }
     let body = 13 + tags::lock_size(tags::form_of(access)) + octets::length_size(n) + n;
-    let at = octets::open_message(out, version, kind, body)?;
-    Ok(put_allocation(out, at, access, tag, mode, size, initial))
+    let next = octets::open_message(out, version, kind, body)?;
+    let next = octets::write_number(out, next, Width::Eight, tag);
+    let next = octets::write_number(out, next, Width::One, mode as u64);
+    let next = octets::write_number(out, next, Width::Four, size as u64);
+    let next = tags::write_lock(out, next, access);
+    let next = octets::write_length(out, next, n);
+    Ok(octets::copy(out, next, initial))
 }
 
 // ---- resource information
 
-// What a unit can take: the largest message, the remaining tags and octets of non-volatile and of volatile memory, and the most entries of a bulk list.
+// What a unit can take: the largest message, the remaining tags and octets of non-volatile and of volatile memory,
+// and the most entries of a bulk list.
 #[derive(Clone, Copy)]
 pub struct Room {
     pub largest: u32,
@@ -189,19 +164,10 @@ pub struct Resource {
 pub fn read_resource(s: &[u8], at: usize) -> Reading<Resource>
     ensures { ResourceAt s.now at result }
 {
-    let Taken {
-        value: tag,
-        next: a,
-    } = octets::read_number(s, at, Width::Eight)?;
-    let Taken {
-        value: mode,
-        next: b,
-    } = read_mode(s, a)?;
-    let Taken {
-        value: held,
-        next: c,
-    } = octets::read_number(s, b, Width::Four)?;
-    let Taken { value: size, next } = octets::read_number(s, c, Width::Four)?;
+    let Taken { value: tag, next } = octets::read_number(s, at, Width::Eight)?;
+    let Taken { value: mode, next } = read_mode(s, next)?;
+    let Taken { value: held, next } = octets::read_number(s, next, Width::Four)?;
+    let Taken { value: size, next } = octets::read_number(s, next, Width::Four)?;
     let value = Resource {
         tag,
         mode,
@@ -235,53 +201,40 @@ pub struct Resources {
 pub fn read_resources(s: &[u8], at: usize) -> Reading<Resources>
     ensures { ResourcesAt s.now at result }
 {
-    let Taken {
-        value: room,
-        next: counted,
-    } = read_room(s, at)?;
-    let Taken {
-        value: count,
-        next: first,
-    } = octets::read_length(s, counted)?;
-    let Taken { value: list, next } = walk_resources(s, first, count)?;
-    Ok(Taken {
-        value: Resources { room, list },
-        next,
-    })
+    let Taken { value: room, next } = read_room(s, at)?;
+    let Taken { value: count, next } = octets::read_length(s, next)?;
+    let Taken { value: list, next } = walk_resources(s, next, count)?;
+    let value = Resources { room, list };
+    Ok(Taken { value, next })
 }
 
 // Whether every mode code stands in the tables.
 fn are_modes(modes: &[u8]) -> bool
     ensures { result ≡ every_mode modes.now }
 {
-    for mode in modes {
-        if !is_mode(*mode) {
-            return false;
-        }
-    }
-    true
+    modes.iter().all(|mode| is_mode(*mode))
 }
 
 fn put_room(out: &mut [u8], at: usize, x: Room) -> usize
     requires { at + 18 ≤ length out.old }
     ensures { Wrote out.old at (room.put x) out.new result }
 {
-    let a = octets::write_number(out, at, Width::Four, x.largest as u64);
-    let b = octets::write_number(out, a, Width::Two, x.tags as u64);
-    let c = octets::write_number(out, b, Width::Four, x.octets as u64);
-    let d = octets::write_number(out, c, Width::Two, x.volatile_tags as u64);
-    let e = octets::write_number(out, d, Width::Four, x.volatile_octets as u64);
-    octets::write_number(out, e, Width::Two, x.entries as u64)
+    let next = octets::write_number(out, at, Width::Four, x.largest as u64);
+    let next = octets::write_number(out, next, Width::Two, x.tags as u64);
+    let next = octets::write_number(out, next, Width::Four, x.octets as u64);
+    let next = octets::write_number(out, next, Width::Two, x.volatile_tags as u64);
+    let next = octets::write_number(out, next, Width::Four, x.volatile_octets as u64);
+    octets::write_number(out, next, Width::Two, x.entries as u64)
 }
 
-fn put_resource(out: &mut [u8], at: usize, tag: u64, mode: u8, held: u32, size: u32) -> usize
+fn put_resource(out: &mut [u8], at: usize, x: Resource) -> usize
     requires { at + 17 ≤ length out.old }
-    ensures { Wrote out.old at (resource.put (record { tag = tag; mode = mode; held = held; size = size })) out.new result }
+    ensures { Wrote out.old at (resource.put x) out.new result }
 {
-    let a = octets::write_number(out, at, Width::Eight, tag);
-    let b = octets::write_number(out, a, Width::One, mode as u64);
-    let c = octets::write_number(out, b, Width::Four, held as u64);
-    octets::write_number(out, c, Width::Four, size as u64)
+    let next = octets::write_number(out, at, Width::Eight, x.tag);
+    let next = octets::write_number(out, next, Width::One, x.mode as u64);
+    let next = octets::write_number(out, next, Width::Four, x.held as u64);
+    octets::write_number(out, next, Width::Four, x.size as u64)
 }
 
 fn put_resources(
@@ -292,17 +245,28 @@ fn put_resources(
     held: &[u32],
     sizes: &[u32],
 ) -> usize
-    requires { (length modes.now ≡ length tags.now) × (length held.now ≡ length tags.now) × (length sizes.now ≡ length tags.now) × (at + 17 * length tags.now ≤ length out.old) }
+    requires modes_too { length modes.now ≡ length tags.now }
+    requires held_too { length held.now ≡ length tags.now }
+    requires sizes_too { length sizes.now ≡ length tags.now }
+    requires room { at + 17 * length tags.now ≤ length out.old }
     ensures { Wrote out.old at (put_all resource (resources_of tags.now modes.now held.now sizes.now)) out.new result }
 {
     let mut next = at;
+    // By place, since four slices zipped give a pair within a pair within a pair, which is no plainer.
     for i in 0..tags.len() {
-        next = put_resource(out, next, tags[i], modes[i], held[i], sizes[i]);
+        let x = Resource {
+            tag: tags[i],
+            mode: modes[i],
+            held: held[i],
+            size: sizes[i],
+        };
+        next = put_resource(out, next, x);
     }
     next
 }
 
 // A message whose body is resource information: entry i tells of tag i, with mode i, data size i and area size i.
+// The slices stay side by side: `resources_sent` has 16 for slices that are not of one length.
 pub fn write_resources(
     out: &mut [u8],
     version: u8,
@@ -316,24 +280,15 @@ pub fn write_resources(
     ensures { Does (resources_sent version kind x tags.now modes.now held.now sizes.now out.old) result out.new }
 {
     let n = tags.len();
-    if modes.len() != n {
+    if modes.len() != n || held.len() != n || sizes.len() != n {
         return Err(Unwritten::Refused);
     }
-    if held.len() != n {
-        return Err(Unwritten::Refused);
-    }
-    if sizes.len() != n {
-        return Err(Unwritten::Refused);
-    }
-    if !are_modes(modes) {
-        return Err(Unwritten::Refused);
-    }
-    if 2048 < n {
+    if !are_modes(modes) || 2048 < n {
         return Err(Unwritten::Refused);
     }
     let body = 18 + octets::length_size(n) + 17 * n;
-    let at = octets::open_message(out, version, kind, body)?;
-    let counted = put_room(out, at, x);
-    let first = octets::write_length(out, counted, n);
-    Ok(put_resources(out, first, tags, modes, held, sizes))
+    let next = octets::open_message(out, version, kind, body)?;
+    let next = put_room(out, next, x);
+    let next = octets::write_length(out, next, n);
+    Ok(put_resources(out, next, tags, modes, held, sizes))
 }

@@ -1,18 +1,20 @@
 -- Allocation and resource information: they read back, how long they are, and which values fit.
-use Prim.Native.Nat.{ℕ, ◌+◌, ◌*◌, ◌^◌, ◌<◌, ◌≤◌}
+use Prim.Native.Nat.{ℕ, ◌+◌, ◌*◌, ◌^◌, ◌<◌}
 use mathlib.Core.Path.{◌≡◌, refl}
-use mathlib.Core.Bool.{Bool, true, false, ◌&&◌, ◌||◌}
+use mathlib.Core.Bool.{Bool, true, false, ◌&&◌}
 use mathlib.Core.List.{List, ◌++◌}
 use native.Mathlib.Omega.{arith}
 use lib.ListN.{length, get_or, length-append}
-use lib.Dec.{ltb, leb}
-use borrow.Author.Tests.{lt-ltb, le-leb, lt-leb, leb-false, eq-eqb, ne_eqb}
+use lib.Dec.{ltb, eqb}
+use borrow.Author.Tests.{lt-ltb, eq-eqb, eqb-true}
 use Rattle.octets.specs.Length.{encode_length}
 use Rattle.octets.specs.Layout.{Layout, numeral, seq, put_all}
 use Rattle.octets.specs.declared.Form.{Form}
 use Rattle.octets.proofs.Places.{both}
 use Rattle.octets.proofs.Numbers.{length-octets}
-use Rattle.octets.proofs.Lists.{length-listed, put-even, fit-listed, every-at}
+use Rattle.std.proofs.lemmas.List.Sums.{AllPass-from_list_all}
+use Rattle.std.proofs.lemmas.List.Elements.{All-get_or}
+use Rattle.octets.proofs.Lists.{length-listed, put-even, fit-listed}
 use Rattle.octets.proofs.Lawful.{Lawful, numeral-lawful, data-lawful, seq-lawful, via-lawful, only-lawful, list_lawful}
 use Rattle.tags.specs.Entry.{lock, lock_size}
 use Rattle.tags.proofs.Entries.{lock-lawful, length-lock}
@@ -54,26 +56,11 @@ length-room x = simp (length-append, length-octets)
 pub length-resource : (x : Resource) → length (resource.put x) ≡ 17
 length-resource x = simp (length-append, length-octets)
 
--- ---- mode codes, by the ranges that the code tests
+-- ---- reading and writing both prohibited is no mode
 
 pub mode-both : (n : ℕ) → n ≡ 3 → mode_known n ≡ false
 unfolding mode_known
 mode-both n e = rw e
-
-pub mode-is : (n : ℕ) → n < 7 → (n ≡ 3 → ⊥) → mode_known n ≡ true
-unfolding mode_known
-mode-is n h k = go (leb n 2) refl
-  where
-    go : (b : Bool) → leb n 2 ≡ b → (b || (leb 4 n && leb n 6)) ≡ true
-    go true e = refl
-    go false e =
-        let l : 4 ≤ n = omega (arith, leb-false n 2 e, k) in
-        let g : n ≤ 6 = omega arith in
-        rw (le-leb 4 n l, le-leb n 6 g)
-
-pub mode-high : (n : ℕ) → 7 ≤ n → mode_known n ≡ false
-unfolding mode_known
-mode-high n h = let j : 2 < n = omega arith in let g : 4 ≤ n = omega arith in rw (lt-leb n 2 j, le-leb 4 n g, lt-leb n 6 h)
 
 -- ---- which values fit
 
@@ -108,22 +95,22 @@ resource-mode x h =
 -- ---- the message that slices side by side describe
 
 module _ (tags modes held sizes : List ℕ) where
-  pub modes-apart : (length modes ≡ length tags → ⊥) → alongside tags modes held sizes ≡ false
+  -- slices that are not all of one length
+  pub apart : (length modes ≡ length tags → length held ≡ length tags → length sizes ≡ length tags → ⊥) → alongside tags modes held sizes ≡ false
   unfolding alongside
-  modes-apart h = rw (ne_eqb (length modes) (length tags) h)
+  apart h = go (alongside tags modes held sizes) refl
+    where
+      go : (b : Bool) → alongside tags modes held sizes ≡ b → b ≡ false
+      go true e =
+          let f = both (eqb (length modes) (length tags) && eqb (length held) (length tags)) (eqb (length sizes) (length tags)) e in
+          let g = both (eqb (length modes) (length tags)) (eqb (length held) (length tags)) f.0 in
+          absurd (h (eqb-true _ _ g.0) (eqb-true _ _ g.1) (eqb-true _ _ f.1))
+      go false e = refl
 
-  pub held-apart : length modes ≡ length tags → (length held ≡ length tags → ⊥) → alongside tags modes held sizes ≡ false
+  -- slices of one length
+  pub are-alongside : length modes ≡ length tags → length held ≡ length tags → length sizes ≡ length tags → alongside tags modes held sizes ≡ true
   unfolding alongside
-  held-apart e h = rw (eq-eqb (length modes) (length tags) e, ne_eqb (length held) (length tags) h)
-
-  module _ (m : length modes ≡ length tags) (h : length held ≡ length tags) where
-    pub sizes-apart : (length sizes ≡ length tags → ⊥) → alongside tags modes held sizes ≡ false
-    unfolding alongside
-    sizes-apart k = rw (eq-eqb (length modes) (length tags) m, eq-eqb (length held) (length tags) h, ne_eqb (length sizes) (length tags) k)
-
-    pub are-alongside : length sizes ≡ length tags → alongside tags modes held sizes ≡ true
-    unfolding alongside
-    are-alongside k = rw (eq-eqb (length modes) (length tags) m, eq-eqb (length held) (length tags) h, eq-eqb (length sizes) (length tags) k)
+  are-alongside m h k = rw (eq-eqb (length modes) (length tags) m, eq-eqb (length held) (length tags) h, eq-eqb (length sizes) (length tags) k)
 
   abbrev all : List Resource
   all = resources_of tags modes held sizes
@@ -135,10 +122,9 @@ module _ (tags modes held sizes : List ℕ) where
       (omega arith)
 
   pub resources-unfit : (x : Room) → length modes ≡ length tags → every_mode modes ≡ false → resources.fits (x, all) ≡ false
-  unfolding every_mode
   resources-unfit x m e =
-      let u = unfit-listed resource (resource_at tags modes held sizes) (λ i. mode_known (get_or modes i 0)) (length tags) (λ i. resource-mode (resource_at tags modes held sizes i)) (rw m at e) in
-      rw u (last (room.fits x) (ltb (length all) 16384))
+      let u = unfit-listed resource (resource_at tags modes held sizes) mode_known modes 0 (λ i. resource-mode (resource_at tags modes held sizes i)) e in
+      rw (rw m at u) (last (room.fits x) (ltb (length all) 16384))
     where
       last : (a b : Bool) → (a && (b && false)) ≡ false
       last true true = refl
@@ -148,8 +134,7 @@ module _ (tags modes held sizes : List ℕ) where
   pub resources-fit : (x : Room) → room.fits x ≡ true → length tags < 16384 → length modes ≡ length tags → every_mode modes ≡ true
       → ((i : ℕ) → get_or tags i 0 < 256 ^ 8) → ((i : ℕ) → get_or modes i 0 < 256 ^ 1) → ((i : ℕ) → get_or held i 0 < 256 ^ 4) → ((i : ℕ) → get_or sizes i 0 < 256 ^ 4)
       → resources.fits (x, all) ≡ true
-  unfolding every_mode
   resources-fit x r n m e t d h s =
-      let k = every-at (λ i. mode_known (get_or modes i 0)) (length tags) in
-      let a = fit-listed resource (resource_at tags modes held sizes) (length tags) (λ i l. resource-fits (resource_at tags modes held sizes i) (t i) (d i) (k i (rw m at e) l) (h i) (s i)) in
+      let k : (i : ℕ) → i < length tags → mode_known (get_or modes i 0) ≡ true = λ i l. All-get_or (λ y. mode_known y ≡ true) modes i 0 (rw m l) (AllPass-from_list_all mode_known modes e) in
+      let a = fit-listed resource (resource_at tags modes held sizes) (length tags) (λ i l. resource-fits (resource_at tags modes held sizes i) (t i) (d i) (k i l) (h i) (s i)) in
       rw (r, length-listed (resource_at tags modes held sizes) (length tags), lt-ltb (length tags) 16384 n, a)
