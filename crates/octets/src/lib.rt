@@ -12,7 +12,7 @@ ghost use Rattle.octets.specs.Frame.{opened};
 ghost use Rattle.octets.specs.View.{LengthAt, NumberAt, DataAt, HeadingOf, EnclosedOf};
 
 // What is wrong with octets that do not decode. The first three are of a length or a count alone.
-#[derive(Clone, Copy)]
+#[derive(Clone, Copy, PartialEq, Eq)]
 pub enum Fault {
     // Octets are missing, the second of a two-octet length included.
     Missing,
@@ -24,21 +24,21 @@ pub enum Fault {
 }
 
 // How a command shows its right to a tag: not at all, or by a password. Any 64 bits are a password, zero too.
-#[derive(Clone, Copy)]
+#[derive(Clone, Copy, PartialEq, Eq)]
 pub enum Access {
     Plain,
     Password(u64),
 }
 
 // By which port a command came.
-#[derive(Clone, Copy)]
+#[derive(Clone, Copy, PartialEq, Eq)]
 pub enum Port {
     Normal,
     Secure,
 }
 
 // Whether the tags of a message come plain or each with its password.
-#[derive(Clone, Copy)]
+#[derive(Clone, Copy, PartialEq, Eq)]
 pub enum Form {
     Plain,
     Password,
