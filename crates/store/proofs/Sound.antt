@@ -9,7 +9,7 @@ use lib.ListN.{replicate}
 use borrow.Author.Tests.{lt-ltb, le-ltb}
 use Rattle.admission.specs.declared.Head.{Head}
 use Rattle.admission.specs.declared.Limits.{Limits}
-use Rattle.admission.specs.declared.Verdict.{Verdict}
+use Rattle.admission.specs.Denial.{Verdict}
 use Rattle.rows.specs.Row.{words}
 use Rattle.rows.proofs.Images
 use Rattle.store.specs.Answers.{begun, started, refused, made, Did}

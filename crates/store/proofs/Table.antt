@@ -11,8 +11,7 @@ use Rattle.octets.specs.declared.Port.TheVariants.{Normal, Secure}
 use Rattle.admission.specs.Admission.{unit_managed, admission}
 use Rattle.admission.specs.declared.Head.{Head}
 use Rattle.admission.specs.declared.Mode.TheVariants.{Both, ReadOnly, WriteOnly}
-use Rattle.admission.specs.declared.Verdict.{Verdict}
-use Rattle.admission.specs.declared.Verdict.TheVariants.{Allowed, Denied}
+use Rattle.admission.specs.Denial.{Verdict, Allowed, Denied}
 use Rattle.rows.specs.Image.{image}
 use Rattle.rows.specs.Keyed.{look, change, without}
 use Rattle.rows.specs.Row.{words}

@@ -7,7 +7,7 @@ use native.Mathlib.Omega.{arith}
 use Rattle.octets.specs.declared.Access.{Access}
 use Rattle.octets.specs.declared.Port.{Port}
 use Rattle.admission.specs.declared.Head.{Head}
-use Rattle.admission.specs.declared.Verdict.{Verdict}
+use Rattle.admission.specs.Denial.{Verdict}
 use Rattle.store.specs.Answers.{begun, Did, ReadOf}
 use Rattle.store.specs.Model.{State, Shows}
 use Rattle.store.specs.Steps.{Step}

@@ -18,8 +18,7 @@ use Rattle.admission.specs.Want as k
 use Rattle.admission.specs.declared.Attributes.{Attributes}
 use Rattle.admission.specs.declared.Head.{Head}
 use Rattle.admission.specs.declared.Mode.{Mode}
-use Rattle.admission.specs.declared.Verdict.{Verdict}
-use Rattle.admission.specs.declared.Verdict.TheVariants.{Allowed, Denied}
+use Rattle.admission.specs.Denial.{Verdict, Allowed, Denied}
 use Rattle.admission.proofs.Admitted
 use Rattle.rows.specs.Keyed.{here, look, change, without}
 use Rattle.rows.specs.Row.{empty, slot_tag, words, slot_at, with_held}

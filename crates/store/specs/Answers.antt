@@ -7,8 +7,8 @@ use Rattle.octets.specs.declared.Port.{Port}
 use Rattle.admission.specs.Want.{Read}
 use Rattle.admission.specs.declared.Head.{Head}
 use Rattle.admission.specs.declared.Limits.{Limits}
-use Rattle.admission.specs.declared.Verdict.{Verdict}
-use Rattle.admission.specs.declared.Verdict.TheVariants as v
+use Rattle.admission.specs.Denial.{Verdict}
+use Rattle.admission.specs.Denial as v
 use Rattle.rows.specs.Keyed.{Maybe, nowhere, here, look}
 use Rattle.rows.specs.Row.{slot_tag}
 use Rattle.rows.specs.declared.Slot.{Slot}
