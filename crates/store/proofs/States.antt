@@ -100,6 +100,10 @@ module _ (u : State) (h : Head) (table pool : List ℕ) (s : Shows u h table poo
       let k = known i l in
       omega (arith, ap (λ (q : Slot). q.at) k.is, ap (λ (q : Slot). q.about.size) k.is, Valid.total-split u.tags k.j k.low, used-is)
 
+  -- so does the area of the slot that a row has, and what is in use lies within the memory
+  pub area-there : (i : ℕ) (q : Slot) → i < h.count → q ≡ slot_at table i → (q.at + q.about.size ≤ h.used) × (h.used ≤ length pool)
+  area-there i q l e = rw e (within-used i l, used-there)
+
   pub held_fits : (i : ℕ) → i < h.count → (slot_at table i).held ≤ (slot_at table i).about.size
   held_fits i l =
       let k = known i l in
