@@ -15,8 +15,7 @@ use Rattle.admission.specs.declared.Attributes.{Attributes}
 use Rattle.admission.specs.declared.Head.{Head}
 use Rattle.admission.specs.declared.Mode.{Mode}
 use Rattle.admission.specs.declared.Mode.TheVariants.{Both, ReadOnly, WriteOnly}
-use Rattle.admission.specs.declared.Verdict.{Verdict}
-use Rattle.admission.specs.declared.Verdict.TheVariants.{Allowed, Denied}
+use Rattle.admission.specs.Denial.{Verdict, Allowed, Denied}
 
 -- ---- the chain of tests: what holds where it came to its last one
 
@@ -31,7 +30,7 @@ passed true d x v n l e = absurd (false-true (sym n ∙ ap last e ∙ l))
 passed false d x v n l e = (refl, e)
 
 -- the last test decides
-abbrev is_denied : Verdict → Bool
+abbrev pub is_denied : Verdict → Bool
 is_denied Allowed = false
 is_denied (Denied d) = true
 

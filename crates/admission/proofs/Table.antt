@@ -15,8 +15,7 @@ use Rattle.admission.specs.declared.Attributes.{Attributes}
 use Rattle.admission.specs.declared.Head.{Head}
 use Rattle.admission.specs.declared.Mode.{Mode}
 use Rattle.admission.specs.declared.Mode.TheVariants.{Both, ReadOnly, WriteOnly}
-use Rattle.admission.specs.declared.Verdict.{Verdict}
-use Rattle.admission.specs.declared.Verdict.TheVariants.{Allowed, Denied}
+use Rattle.admission.specs.Denial.{Verdict, Allowed, Denied}
 
 -- a unit of the first kind, with passwords fitted or not, so far filled
 abbrev unit : Bool → ℕ → ℕ → Head

@@ -9,8 +9,7 @@ use Rattle.admission.specs.Want.{Known, Tag, Nothing, Want, Allocate, Fit, Free,
 use Rattle.admission.specs.declared.Head.{Head}
 use Rattle.admission.specs.declared.Mode.{Mode}
 use Rattle.admission.specs.declared.Mode.TheVariants.{Both, ReadOnly, WriteOnly}
-use Rattle.admission.specs.declared.Verdict.{Verdict}
-use Rattle.admission.specs.declared.Verdict.TheVariants.{Allowed, Denied}
+use Rattle.admission.specs.Denial.{Verdict, Allowed, Denied}
 
 -- "bit 6 clear is gate-allocated, set is unit-managed", of the first of eight octets
 unfoldable pub unit_managed : ℕ → Bool

@@ -1,9 +1,10 @@
-// Admission: whether a unit lets an operation through, or the number that refuses it.
+// Admission: whether a unit lets an operation through, or why it denies it.
 // Rules: document 01, 'Denials and their order'. Every operation on a tag has its function here, but for the one that tells what is registered. The rule is
 // one for all, `admission`: of its tests the first decides in one order, 6, 12, 11, 10, 8, 9, 5. Each function has those tests that its operation needs.
 #![tactic(auto)]
 
 ghost use Rattle.std.specs.Prelude.{◌≡◌, ℕ, ◌≤◌};
+ghost use Rattle.admission.specs.Denial.{number, verdict_of};
 ghost use Rattle.admission.specs.Mode.{mode_code, code_spf, low_mode, code_mode};
 ghost use Rattle.admission.specs.Admission.{unit_managed, lock_unfitted, port_bars, lock_bars, use_bars, bad_size, no_room, admission};
 ghost use Rattle.admission.specs.Want.{Known, is_tag, Tag, Allocate, Fit, Free, Read, Write};
@@ -11,7 +12,7 @@ ghost use Rattle.admission.specs.Want.{Known, is_tag, Tag, Allocate, Fit, Free, 
 use octets::{Access, Port};
 
 // How a tag may be used.
-#[derive(Clone, Copy)]
+#[derive(Clone, Copy, PartialEq, Eq)]
 pub enum Mode {
     Both,
     ReadOnly,
@@ -49,11 +50,48 @@ pub struct Attributes {
     pub lock: Access,
 }
 
-// Document 01's number is the denial's own.
-#[derive(Clone, Copy)]
-pub enum Verdict {
-    Allowed,
-    Denied(u8),
+// Why a unit denies. Each variant has document 01's number, which `number` gives.
+#[derive(Clone, Copy, PartialEq, Eq)]
+pub enum Denial {
+    // 4: the version differs from the unit's.
+    Version,
+    // 5: no room for another tag or for its area.
+    Room,
+    // 6: the tag is registered already, is not registered, or is of the other kind.
+    Tag,
+    // 7: too many entries in a list.
+    List,
+    // 8: the mode prohibits it.
+    Mode,
+    // 9: a bad size, or data longer than the area.
+    Size,
+    // 10: a password that is missing, wrong or sent for a tag that has none.
+    Password,
+    // 11: SPF is required and the port is normal.
+    Port,
+    // 12: the operation type is not in the table, or its option is not fitted.
+    Option,
+    // 16: octets that do not decode.
+    Octets,
+}
+
+impl Denial {
+    pub fn number(self) -> u8
+        ensures { result ≡ number self }
+    {
+        match self {
+            Denial::Version => 4,
+            Denial::Room => 5,
+            Denial::Tag => 6,
+            Denial::List => 7,
+            Denial::Mode => 8,
+            Denial::Size => 9,
+            Denial::Password => 10,
+            Denial::Port => 11,
+            Denial::Option => 12,
+            Denial::Octets => 16,
+        }
+    }
 }
 
 // ---- a mode's code, as in the tables
@@ -78,27 +116,23 @@ pub fn code_spf(code: u64) -> bool
 fn low_mode(code: u64) -> Mode
     ensures { result ≡ low_mode code }
 {
-    if code == 1 {
-        return Mode::WriteOnly;
+    match code {
+        1 => Mode::WriteOnly,
+        2 => Mode::ReadOnly,
+        _ => Mode::Both,
     }
-    if code == 2 {
-        return Mode::ReadOnly;
-    }
-    Mode::Both
 }
 
 pub fn code_mode(code: u64) -> Mode
     ensures { result ≡ code_mode code }
 {
-    if 4 <= code {
-        return low_mode(code - 4);
-    }
-    low_mode(code)
+    low_mode(if code_spf(code) { code - 4 } else { code })
 }
 
 // ---- the tests, by their numbers
 
 // Bit 6 of the first octet of a tag.
+#[tactic(auto, unfolding(crate::specs::Admission::unit_managed))]
 fn is_unit_managed(tag: u64) -> bool
     ensures { result ≡ unit_managed tag }
 {
@@ -109,184 +143,155 @@ fn is_unit_managed(tag: u64) -> bool
 fn port_bars(tag: Attributes, port: Port) -> bool
     ensures { result ≡ port_bars (Tag tag) port }
 {
-    match port {
-        Port::Normal => tag.spf,
-        Port::Secure => false,
-    }
+    port == Port::Normal && tag.spf
 }
 
 // 10.
 fn lock_bars(lock: Access, access: Access) -> bool
     ensures { result ≡ lock_bars lock access }
 {
-    match lock {
-        Access::Plain => match access {
-            Access::Plain => false,
-            Access::Password(_) => true,
-        },
-        Access::Password(a) => match access {
-            Access::Plain => true,
-            Access::Password(b) => a != b,
-        },
-    }
+    lock != access
 }
 
 // 8, of a read.
 fn bars_read(mode: Mode) -> bool
     ensures { result ≡ use_bars mode Read }
 {
-    match mode {
-        Mode::Both => false,
-        Mode::ReadOnly => false,
-        Mode::WriteOnly => true,
-    }
+    mode == Mode::WriteOnly
 }
 
 // 8, of a write of any length.
 fn bars_write(mode: Mode) -> bool
     ensures { (n : ℕ) → result ≡ use_bars mode (Write n) }
 {
-    match mode {
-        Mode::Both => false,
-        Mode::ReadOnly => true,
-        Mode::WriteOnly => false,
-    }
+    mode == Mode::ReadOnly
 }
 
 // 12.
 fn lock_unfitted(passwords: bool, lock: Access) -> bool
     ensures { result ≡ lock_unfitted passwords lock }
 {
-    match lock {
-        Access::Plain => false,
-        Access::Password(_) => !passwords,
-    }
+    lock != Access::Plain && !passwords
 }
 
 // 9.
 fn bad_size(area: usize, size: usize) -> bool
     ensures { result ≡ bad_size area size }
 {
-    if size < 1 {
-        return true;
-    }
-    area < size
+    size < 1 || area < size
 }
 
 // 5. Compared before they are added: no size is too great.
 fn no_room(head: Head, size: usize) -> bool
     ensures { result ≡ no_room head size }
 {
-    if head.limits.tags <= head.count {
-        return true;
-    }
-    if head.limits.memory < head.used {
-        return true;
-    }
-    head.limits.memory - head.used < size
+    head.limits.tags <= head.count
+        || head.limits.memory < head.used
+        || head.limits.memory - head.used < size
 }
 
 // ---- the operations on a registered tag, each test in its turn
 
 // 11, 10, 8.
-pub fn admit_read(tag: Attributes, port: Port, access: Access) -> Verdict
-    ensures { (h : Head) → result ≡ admission h (Tag tag) Read port access }
+#[tactic(auto, unfolding(crate::specs::Admission::admission))]
+pub fn admit_read(tag: Attributes, port: Port, access: Access) -> Result<(), Denial>
+    ensures { (h : Head) → verdict_of result ≡ admission h (Tag tag) Read port access }
 {
-    let lock = tag.lock;
-    let mode = tag.mode;
     if port_bars(tag, port) {
-        return Verdict::Denied(11);
+        return Err(Denial::Port);
     }
-    if lock_bars(lock, access) {
-        return Verdict::Denied(10);
+    if lock_bars(tag.lock, access) {
+        return Err(Denial::Password);
     }
-    if bars_read(mode) {
-        return Verdict::Denied(8);
+    if bars_read(tag.mode) {
+        return Err(Denial::Mode);
     }
-    Verdict::Allowed
+    Ok(())
 }
 
 // 11, 10, 8, 9: of data of n octets.
-pub fn admit_write(tag: Attributes, n: usize, port: Port, access: Access) -> Verdict
-    ensures { (h : Head) → result ≡ admission h (Tag tag) (Write n) port access }
+#[tactic(auto, unfolding(crate::specs::Admission::admission))]
+pub fn admit_write(tag: Attributes, n: usize, port: Port, access: Access) -> Result<(), Denial>
+    ensures { (h : Head) → verdict_of result ≡ admission h (Tag tag) (Write n) port access }
 {
-    let lock = tag.lock;
-    let mode = tag.mode;
     if port_bars(tag, port) {
-        return Verdict::Denied(11);
+        return Err(Denial::Port);
     }
-    if lock_bars(lock, access) {
-        return Verdict::Denied(10);
+    if lock_bars(tag.lock, access) {
+        return Err(Denial::Password);
     }
-    if bars_write(mode) {
-        return Verdict::Denied(8);
+    if bars_write(tag.mode) {
+        return Err(Denial::Mode);
     }
     if tag.size < n {
-        return Verdict::Denied(9);
+        return Err(Denial::Size);
     }
-    Verdict::Allowed
+    Ok(())
 }
 
 // 6, 11, 10.
-pub fn admit_free(tag: Attributes, port: Port, access: Access) -> Verdict
-    ensures { (h : Head) → result ≡ admission h (Tag tag) Free port access }
+#[tactic(auto, unfolding(crate::specs::Admission::admission))]
+pub fn admit_free(tag: Attributes, port: Port, access: Access) -> Result<(), Denial>
+    ensures { (h : Head) → verdict_of result ≡ admission h (Tag tag) Free port access }
 {
-    let lock = tag.lock;
     if is_unit_managed(tag.tag) {
-        return Verdict::Denied(6);
+        return Err(Denial::Tag);
     }
     if port_bars(tag, port) {
-        return Verdict::Denied(11);
+        return Err(Denial::Port);
     }
-    if lock_bars(lock, access) {
-        return Verdict::Denied(10);
+    if lock_bars(tag.lock, access) {
+        return Err(Denial::Password);
     }
-    Verdict::Allowed
+    Ok(())
 }
 
 // ---- the operations that register a tag, by whether it is registered already
 
 // 6, 9, 5.
-pub fn admit_allocate(head: Head, registered: bool, new: Attributes) -> Verdict
-    ensures { (k : Known) (p : Port) (a : Access) → is_tag k ≡ registered → result ≡ admission head k (Allocate new) p a }
+#[tactic(auto, unfolding(crate::specs::Admission::admission))]
+pub fn admit_allocate(head: Head, registered: bool, new: Attributes) -> Result<(), Denial>
+    ensures { (k : Known) (p : Port) (a : Access) → is_tag k ≡ registered
+        → verdict_of result ≡ admission head k (Allocate new) p a }
 {
     if registered {
-        return Verdict::Denied(6);
+        return Err(Denial::Tag);
     }
     if is_unit_managed(new.tag) {
-        return Verdict::Denied(6);
+        return Err(Denial::Tag);
     }
     if bad_size(head.limits.area, new.size) {
-        return Verdict::Denied(9);
+        return Err(Denial::Size);
     }
     if no_room(head, new.size) {
-        return Verdict::Denied(5);
+        return Err(Denial::Room);
     }
-    Verdict::Allowed
+    Ok(())
 }
 
 // 6, 12, 9, 5: with first data of `held` octets.
-pub fn admit_fit(head: Head, registered: bool, new: Attributes, held: usize) -> Verdict
-    ensures { (k : Known) (p : Port) (a : Access) → is_tag k ≡ registered → result ≡ admission head k (Fit new held) p a }
+#[tactic(auto, unfolding(crate::specs::Admission::admission))]
+pub fn admit_fit(head: Head, registered: bool, new: Attributes, held: usize) -> Result<(), Denial>
+    ensures { (k : Known) (p : Port) (a : Access) → is_tag k ≡ registered
+        → verdict_of result ≡ admission head k (Fit new held) p a }
 {
-    let lock = new.lock;
     if registered {
-        return Verdict::Denied(6);
+        return Err(Denial::Tag);
     }
     if !is_unit_managed(new.tag) {
-        return Verdict::Denied(6);
+        return Err(Denial::Tag);
     }
-    if lock_unfitted(head.passwords, lock) {
-        return Verdict::Denied(12);
+    if lock_unfitted(head.passwords, new.lock) {
+        return Err(Denial::Option);
     }
     if bad_size(head.limits.area, new.size) {
-        return Verdict::Denied(9);
+        return Err(Denial::Size);
     }
     if new.size < held {
-        return Verdict::Denied(9);
+        return Err(Denial::Size);
     }
     if no_room(head, new.size) {
-        return Verdict::Denied(5);
+        return Err(Denial::Room);
     }
-    Verdict::Allowed
+    Ok(())
 }

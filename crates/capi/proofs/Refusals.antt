@@ -25,8 +25,7 @@ use Rattle.answers.specs.declared.Reply.{Reply}
 use Rattle.answers.specs.declared.Reply.TheVariants as y
 use Rattle.admission.specs.Want.{Fit}
 use Rattle.admission.specs.declared.Mode.{Mode}
-use Rattle.admission.specs.declared.Verdict.{Verdict}
-use Rattle.admission.specs.declared.Verdict.TheVariants.{Allowed, Denied}
+use Rattle.admission.specs.Denial.{Verdict, Allowed, Denied}
 use Rattle.store.specs.Model.{State, Tag}
 use Rattle.store.specs.Steps.{verdict, acted, asked, more, fit_step}
 use Rattle.responder.specs.Entry.{word_for, area_for}

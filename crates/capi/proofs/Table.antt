@@ -18,7 +18,7 @@ use Rattle.resources.specs.declared.ResourceRead.TheVariants as e
 use Rattle.answers.specs.declared.Given.TheVariants as g
 use Rattle.answers.specs.declared.Reply.{Reply}
 use Rattle.answers.specs.declared.Reply.TheVariants as r
-use Rattle.admission.specs.declared.Verdict.TheVariants.{Allowed, Denied}
+use Rattle.admission.specs.Denial.{Allowed, Denied}
 use Rattle.store.specs.Model.{first_kind}
 use Rattle.responder.specs.Entry.{length-is, refusal}
 use Rattle.responder.specs.Respond.{Line, number, none}

@@ -17,8 +17,7 @@ use Rattle.octets.proofs.Places.{both}
 use Rattle.admission.specs.Want.{Allocate, Fit, Free, Write}
 use Rattle.admission.specs.declared.Head.{Head}
 use Rattle.admission.specs.declared.Mode.{Mode}
-use Rattle.admission.specs.declared.Verdict.{Verdict}
-use Rattle.admission.specs.declared.Verdict.TheVariants.{Allowed, Denied}
+use Rattle.admission.specs.Denial.{Verdict, Allowed, Denied}
 use Rattle.rows.specs.Keyed.{change, without}
 use Rattle.store.specs.Answers.{begun, started, made, refused as unmade, Did}
 use Rattle.store.specs.Model.{State, Tag, tag_id, new_unit, first_kind, head_of, Shows, Sound}

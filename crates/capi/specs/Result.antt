@@ -4,8 +4,8 @@ use Rattle.std.specs.Prelude.{ℤ, pos, neg_ℤ, ◌≤◌}
 use Rattle.octets.specs.Area.{Outcome, done, refused}
 use Rattle.octets.specs.declared.Written.{Written}
 use Rattle.octets.specs.declared.Written.TheVariants as w
-use Rattle.admission.specs.declared.Verdict.{Verdict}
-use Rattle.admission.specs.declared.Verdict.TheVariants as v
+use Rattle.admission.specs.Denial.{Verdict}
+use Rattle.admission.specs.Denial as v
 use Rattle.responder.specs.Entry.{Word, length-is, refusal}
 use Rattle.responder.specs.declared.Sent.{Sent}
 use Rattle.responder.specs.declared.Sent.TheVariants as s

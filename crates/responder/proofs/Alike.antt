@@ -17,8 +17,7 @@ use Rattle.resources.specs.declared.Resource.{Resource}
 use Rattle.admission.specs.Admission.{lock_bars}
 use Rattle.admission.specs.Want.{Want, Allocate, Free, Read, Write}
 use Rattle.admission.specs.declared.Mode.{Mode}
-use Rattle.admission.specs.declared.Verdict.{Verdict}
-use Rattle.admission.specs.declared.Verdict.TheVariants.{Allowed, Denied}
+use Rattle.admission.specs.Denial.{Verdict, Allowed, Denied}
 use Rattle.admission.proofs.Admitted
 use Rattle.rows.specs.Keyed.{nowhere, here, look, change, without, Apart}
 use Rattle.rows.proofs.Keys

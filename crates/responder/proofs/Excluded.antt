@@ -30,7 +30,7 @@ use Rattle.answers.specs.Denial.{Denial}
 use Rattle.answers.proofs.Worked.{K, W, P, k, w, times, left}
 use Rattle.admission.specs.Admission.{unit_managed, admission}
 use Rattle.admission.specs.declared.Mode.TheVariants.{Both}
-use Rattle.admission.specs.declared.Verdict.TheVariants.{Denied}
+use Rattle.admission.specs.Denial.{Denied}
 use Rattle.rows.specs.Keyed.{here, look, change}
 use Rattle.store.specs.Model.{State, Tag, first_kind, total, Shared, Valid}
 use Rattle.store.specs.Steps.{registered, held_by, content, read_step, write_step, allocate_step}

@@ -16,8 +16,7 @@ use Rattle.requests.specs.Request as q
 use Rattle.answers.specs.Answer as b
 use Rattle.admission.specs.Mode.{code_spf, code_mode}
 use Rattle.admission.specs.declared.Mode.{Mode}
-use Rattle.admission.specs.declared.Verdict.{Verdict}
-use Rattle.admission.specs.declared.Verdict.TheVariants.{Allowed, Denied}
+use Rattle.admission.specs.Denial.{Verdict, Allowed, Denied}
 use Rattle.store.specs.Model.{State, Valid}
 use Rattle.store.specs.Steps.{Step, Content, content, read_step, write_step, free_step, allocate_step}
 use Rattle.store.specs.Steps as s

@@ -17,8 +17,7 @@ use Rattle.requests.specs.Request as q
 use Rattle.answers.specs.Answer as b
 use Rattle.admission.specs.Mode.{code_mode, code_spf}
 use Rattle.admission.specs.declared.Limits.{Limits}
-use Rattle.admission.specs.declared.Verdict.{Verdict}
-use Rattle.admission.specs.declared.Verdict.TheVariants.{Allowed, Denied}
+use Rattle.admission.specs.Denial.{Verdict, Allowed, Denied}
 use Rattle.store.specs.Model.{State, new_unit, total, Shared, Valid, Sound}
 use Rattle.store.specs.Steps.{Step, Content, content, write_step, free_step, allocate_step, read_step}
 use Rattle.store.specs.Steps as s

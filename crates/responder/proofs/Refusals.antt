@@ -25,8 +25,7 @@ use Rattle.admission.specs.Admission.{room_bars}
 use Rattle.admission.specs.Mode.{code_mode, code_spf}
 use Rattle.admission.specs.Want.{Want}
 use Rattle.admission.specs.Want as want
-use Rattle.admission.specs.declared.Verdict.{Verdict}
-use Rattle.admission.specs.declared.Verdict.TheVariants.{Allowed, Denied}
+use Rattle.admission.specs.Denial.{Verdict, Allowed, Denied}
 use Rattle.admission.proofs.Admitted
 use Rattle.store.specs.Model.{State, head_of}
 use Rattle.store.specs.Steps.{Step, registered, known_of, verdict, held_by, content_by, write_step, free_step, allocate_step, read_step}

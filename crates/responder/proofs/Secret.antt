@@ -20,8 +20,7 @@ use Rattle.requests.specs.Request as q
 use Rattle.answers.specs.Answer as answers
 use Rattle.admission.specs.Mode.{code_spf, code_mode}
 use Rattle.admission.specs.declared.Head.{Head}
-use Rattle.admission.specs.declared.Verdict.{Verdict}
-use Rattle.admission.specs.declared.Verdict.TheVariants.{Allowed, Denied}
+use Rattle.admission.specs.Denial.{Verdict, Allowed, Denied}
 use Rattle.store.specs.Model.{State, Tag, Valid, Shows}
 use Rattle.store.specs.Steps.{registered, Step, Content, content, read_step, write_step, free_step, allocate_step}
 use Rattle.store.specs.Steps as steps

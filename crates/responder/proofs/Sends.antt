@@ -18,8 +18,7 @@ use Rattle.store.specs.Answers.{Did}
 use Rattle.store.specs.Model.{State, Shows, Sound}
 use Rattle.store.specs.Steps.{Step}
 use Rattle.admission.specs.declared.Head.{Head}
-use Rattle.admission.specs.declared.Verdict.{Verdict}
-use Rattle.admission.specs.declared.Verdict.TheVariants.{Allowed, Denied}
+use Rattle.admission.specs.Denial.{Verdict, Allowed, Denied}
 use Rattle.octets.specs.declared.Form.{Form}
 use Rattle.answers.specs.Answer as b
 use Rattle.responder.specs.Respond.{supplement_of, denial, stepped}

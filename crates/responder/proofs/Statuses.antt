@@ -16,8 +16,7 @@ use Rattle.admission.specs.Admission.{tag_bars, option_bars, port_bars, password
 use Rattle.admission.specs.Want.{Known, Want, Allocate, Free, Read, Write}
 use Rattle.admission.specs.declared.Head.{Head}
 use Rattle.admission.specs.declared.Mode.{Mode}
-use Rattle.admission.specs.declared.Verdict.{Verdict}
-use Rattle.admission.specs.declared.Verdict.TheVariants.{Allowed, Denied}
+use Rattle.admission.specs.Denial.{Verdict, Allowed, Denied}
 use Rattle.rows.specs.Keyed.{Maybe, nowhere, here}
 use Rattle.store.specs.Model.{State, Tag, Proper, Valid, head_of}
 use Rattle.store.specs.Steps.{registered, known_of, verdict, asked, Content, content, denied, held_by, content_by, write_step, free_step, allocate_step, read_step}

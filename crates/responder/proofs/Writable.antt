@@ -38,8 +38,7 @@ use Rattle.answers.proofs.Theorems.{answer-written-reads}
 use Rattle.admission.specs.Mode.{mode_code, code_mode, code_spf}
 use Rattle.admission.specs.declared.Mode.{Mode}
 use Rattle.admission.specs.declared.Mode.TheVariants.{Both, ReadOnly, WriteOnly}
-use Rattle.admission.specs.declared.Verdict.{Verdict}
-use Rattle.admission.specs.declared.Verdict.TheVariants.{Allowed, Denied}
+use Rattle.admission.specs.Denial.{Verdict, Allowed, Denied}
 use Rattle.rows.specs.Keyed.{Maybe, nowhere, here}
 use Rattle.rows.proofs.Keys
 use Rattle.store.specs.Model.{State, Tag, tag_id, head_of, Valid}

@@ -13,7 +13,7 @@ use Rattle.tags.specs.Entry.{Keyed, Held}
 use Rattle.answers.specs.Answer.{Answer, accepted, answer, answer_writable, answer_sent}
 use Rattle.answers.specs.Answer as b
 use Rattle.admission.specs.declared.Head.{Head}
-use Rattle.admission.specs.declared.Verdict.{Verdict}
+use Rattle.admission.specs.Denial.{Verdict}
 use Rattle.store.specs.Answers.{Did}
 use Rattle.store.specs.Model.{State, Shows, Sound}
 use Rattle.store.specs.Steps.{write_step}

@@ -21,8 +21,7 @@ use Rattle.admission.specs.Mode.{mode_code, code_spf, code_mode}
 use Rattle.admission.specs.declared.Attributes.{Attributes}
 use Rattle.admission.specs.declared.Mode.{Mode}
 use Rattle.admission.specs.declared.Mode.TheVariants.{Both, ReadOnly, WriteOnly}
-use Rattle.admission.specs.declared.Verdict.{Verdict}
-use Rattle.admission.specs.declared.Verdict.TheVariants.{Allowed, Denied}
+use Rattle.admission.specs.Denial.{Verdict, Allowed, Denied}
 use Rattle.rows.specs.Keyed.{Maybe, nowhere, here}
 use Rattle.store.specs.Model.{State, Tag, head_of}
 use Rattle.store.specs.Steps.{Step, registered, write_step, free_step, allocate_step, read_step, Content, content, remainder}

@@ -1,12 +1,14 @@
 -- Loops that write a list over a slice, from a place on: how such a loop starts, turns and ends. Stated over free numbers, so that each premise is plain
 -- arithmetic wherever a loop keeps its place. Assumes nothing.
-use mathlib.Core.Path.{◌≡◌, sym, ap, ◌∙◌}
+use mathlib.Core.Path.{◌≡◌, refl, sym, ap, ◌∙◌}
 use mathlib.Core.List.{List, ◌++◌, append_assoc}
 use Prim.Native.Nat.{ℕ, suc, ◌+◌, ◌-◌, ◌≤◌, ◌<◌}
 use native.Mathlib.Omega.{arith}
 use native.Mathlib.Numerals.{add-one}
 use lib.ListN.{length, take, drop, get_or, set, replicate, length-append, length-take, length-drop, length-replicate, get_or-replicate, take-append-drop}
-use lib.Seq.{sets, sets-eq, take-length, length-take-le, get_or-drop, drop-drop}
+use lib.Seq.{sets, sets-eq, paste, take-length, length-take-le, get_or-drop, drop-drop}
+use borrow.Rule.Slice.PartMut.{put_mid}
+use Rattle.std.proofs.lemmas.Slice.{put_mid-paste}
 use Rattle.octets.proofs.Numbers.{sets-step}
 use Rattle.rows.specs.Image.{closed}
 use Rattle.rows.proofs.Places.{sets-mid, get_or-sets, drop-take}
@@ -24,11 +26,6 @@ start d s at j e = rw e
 pub step : (d s : List ℕ) (at i j j' v : ℕ) → i ≡ at + j → j' ≡ suc j → v ≡ get_or s j 0 → j < length s → set (part d at s j) i v ≡ part d at s j'
 unfolding part
 step d s at i j j' v ei ej ev h = rw (ei, ej, ev, ← add-one j) (sets-step d s at j h)
-
--- where the loop stops before the end of s
-pub stopped : (d s : List ℕ) (at j n : ℕ) → j ≡ n → part d at s j ≡ sets d at (take n s)
-unfolding part
-stopped d s at j n e = rw e
 
 -- and at its end
 pub done : (d s : List ℕ) (at j : ℕ) → j ≡ length s → part d at s j ≡ sets d at s
@@ -78,3 +75,14 @@ pub close-all : (d x : List ℕ) (at n m j e end : ℕ) → x ≡ part d at (dro
     → sets x e (replicate n 0) ≡ closed d at n end
 unfolding part
 close-all d x at n m j e end ex em ee ej h = close-sets d x at n m j e end ex em ee ej h
+
+-- a part that was copied within the list is written from a place on
+pub pasted : (d s : List ℕ) (at n m : ℕ) → n ≡ m → n ≤ length s → at + n ≤ length d → paste d at s n ≡ sets d at (take m s)
+pasted d s at n m e h l =
+    let k = length-take-le n s h in
+    ap (λ (j : ℕ). take at d ++ take n s ++ drop (at + j) d) (sym k) ∙ sym (sets-eq (take n s) d at (omega (arith, k))) ∙ ap (λ (j : ℕ). sets d at (take j s)) e
+
+-- a part of a slice that is written whole is written from its start on
+pub put-part : (d s : List ℕ) (at k : ℕ) → length s ≡ k → at + k ≤ length d → put_mid at k d s ≡ sets d at s
+put-part d s at k e h =
+    put_mid-paste at k d s s k refl refl (sym e) ∙ pasted d s at k (length s) (sym e) (omega (arith, e)) h ∙ ap (sets d at) (take-length s)

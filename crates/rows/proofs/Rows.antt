@@ -2,13 +2,14 @@
 use mathlib.Core.Path.{◌≡◌, refl, sym, ap, ◌∙◌}
 use mathlib.Core.List.{List, [], ◌∷◌, ◌++◌, append-nil, append_assoc, flat_map}
 use mathlib.Core.Bool.{Bool, true, false, cond}
-use Prim.Native.Nat.{ℕ, zero, suc, ◌+◌, ◌-◌, ◌*◌, ◌≤◌, ◌<◌, ◌/◌}
+use Rattle.std.specs.Prelude.{Some, None}
+use Prim.Native.Nat.{ℕ, zero, suc, ◌+◌, ◌-◌, ◌*◌, ◌≤◌, ◌<◌}
 use native.Mathlib.Omega.{arith}
 use native.Mathlib.Decide.{ℕ_discrete}
 use lib.ListN.{length, take, drop, get_or, set, replicate, length-append, length-drop}
-use lib.Dec.{eqb, ltb}
+use lib.Dec.{eqb}
 use lib.Seq.{sets, length-sets, length-take-le, take-suc, drop-cons, set_at, get_or_at, take_all, drop-length}
-use borrow.Author.Tests.{eq-eqb, ne_eqb, eqb-true, eqb-false, le-leb, lt-leb, le-ltb, lt-ltb, ltb-true, ltb-false}
+use borrow.Author.Tests.{ne_eqb, eqb-true, eqb-false, le-leb, lt-ltb}
 use Rattle.octets.specs.Area.{laid}
 use Rattle.octets.specs.declared.Access.{Access}
 use Rattle.admission.specs.Mode.{mode_code, code_spf, code_mode}
@@ -16,7 +17,6 @@ use Rattle.admission.specs.declared.Mode.{Mode}
 use Rattle.rows.specs.Keyed.{nowhere, look}
 use Rattle.rows.specs.Image.{image, closed}
 use Rattle.rows.specs.Row.{slot_tag, empty, lock_word, password_word, words, lock_of, slot_in, slot_at, with_held, rows_in, scan, low, sunk, removed}
-use Rattle.rows.specs.declared.Row.{Row}
 use Rattle.rows.specs.declared.Slot.{Slot}
 use Rattle.rows.proofs.Moves.{close-sets}
 use Rattle.rows.proofs.Places.{remove}
@@ -101,11 +101,6 @@ pub slot-there : (t : List ℕ) (i : ℕ) → i * 8 + 8 ≤ length t → slot_at
 unfolding slot_at
 slot-there t i h = rw (le-leb _ _ h)
 
--- a row past the table
-pub slot-past : (t : List ℕ) (i : ℕ) → length t < i * 8 + 8 → slot_at t i ≡ empty
-unfolding slot_at
-slot-past t i h = rw (lt-leb _ _ h)
-
 -- a row is loaded
 pub slot-load : (ss : List Slot) (i n : ℕ) → i < length ss → length ss * 8 ≤ n → slot_at (image words ss n) i ≡ get_or ss i empty
 slot-load ss i n h l = slot-there (image words ss n) i (omega (arith, length-table ss n l)) ∙ slot-in ss i n h
@@ -115,20 +110,10 @@ pub put-there : (t : List ℕ) (s : Slot) (j : ℕ) → j + 8 ≤ length t → l
 unfolding laid
 put-there t s j h = let e : j + length (words s) ≤ length t = omega (arith, length-row s) in rw (le-leb _ _ e)
 
--- a row past the table is not stored
-pub put-past : (t : List ℕ) (s : Slot) (j : ℕ) → length t < j + 8 → laid t j (words s) ≡ t
-unfolding laid
-put-past t s j h = let e : length t < j + length (words s) = omega (arith, length-row s) in rw (lt-leb _ _ e)
-
 -- a held length is stored in a row that the table has
 pub held-there : (t : List ℕ) (i n : ℕ) → i * 8 + 8 ≤ length t → with_held t i n ≡ set t (i * 8 + 3) n
 unfolding with_held
 held-there t i n h = rw (le-leb _ _ h)
-
--- in a row past the table none is
-pub held-past : (t : List ℕ) (i n : ℕ) → length t < i * 8 + 8 → with_held t i n ≡ t
-unfolding with_held
-held-past t i n h = rw (lt-leb _ _ h)
 
 -- the row's other words stay
 pub held-store : (ss : List Slot) (i k n : ℕ) → i < length ss → length ss * 8 ≤ n
@@ -149,61 +134,42 @@ slot-add ss s k n e h =
 
 -- of rows that the table has, it has as many
 pub rows-in : (t : List ℕ) (count : ℕ) → count * 8 ≤ length t → rows_in t count ≡ count
-rows-in t count h = go (ltb count (length t / 8)) refl
-  where
-    go : (b : Bool) → ltb count (length t / 8) ≡ b → cond b count (length t / 8) ≡ count
-    go true e = refl
-    go false e = omega (arith, ltb-false count (length t / 8) e)
+rows-in t count h = omega arith
 
 -- and never more
 pub rows_fit : (t : List ℕ) (count : ℕ) → rows_in t count * 8 ≤ length t
-rows_fit t count = go (ltb count (length t / 8)) refl
-  where
-    go : (b : Bool) → ltb count (length t / 8) ≡ b → cond b count (length t / 8) * 8 ≤ length t
-    go true e = omega (arith, ltb-true count (length t / 8) e)
-    go false e = omega arith
-
--- the row at hand has the tag
-pub scan-hit : (t : List ℕ) (x k n : ℕ) → 0 < n → get_or t (k * 8) 0 ≡ x → scan t x k n ≡ Row.At k
-unfolding scan
-scan-hit t x k zero h e = absurd (omega arith)
-scan-hit t x k (suc n) h e = rw (eq-eqb (get_or t (k * 8) 0) x e)
+rows_fit t count = omega arith
 
 -- it has not, and the next is looked at
 pub scan-miss : (t : List ℕ) (x k n k' n' : ℕ) → k' ≡ suc k → n ≡ suc n' → (get_or t (k * 8) 0 ≡ x → ⊥) → scan t x k n ≡ scan t x k' n'
 unfolding scan
 scan-miss t x k n k' n' ek en h = rw (ek, en, ne_eqb (get_or t (k * 8) 0) x h)
 
--- no row is left
-pub scan-none : (t : List ℕ) (x k n : ℕ) → n ≡ 0 → scan t x k n ≡ Row.Nothing
-unfolding scan
-scan-none t x k n e = rw e
-
-at_same : (i j : ℕ) → Row.At i ≡ Row.At j → i ≡ j
+at_same : (i j : ℕ) → Some i ≡ Some j → i ≡ j
 at_same i j e = cc
 
-not_at : (i : ℕ) → Row.At i ≡ Row.Nothing → ⊥
+not_at : (i : ℕ) → Some i ≡ None → ⊥
 not_at i e = let z : ◌≡◌ {A = ℕ} 0 1 = cc in omega arith
 
 -- a row that is found is one of those looked at, and has the tag
-pub scan-found : (t : List ℕ) (x k n i : ℕ) → scan t x k n ≡ Row.At i → (i < k + n) × (get_or t (i * 8) 0 ≡ x)
+pub scan-found : (t : List ℕ) (x k n i : ℕ) → scan t x k n ≡ Some i → (i < k + n) × (get_or t (i * 8) 0 ≡ x)
 unfolding scan
 scan-found t x k zero i e = absurd (not_at i (sym e))
 scan-found t x k (suc n) i e = go (eqb (get_or t (k * 8) 0) x) refl e (scan-found t x (suc k) n i)
   where
-    go : (b : Bool) → eqb (get_or t (k * 8) 0) x ≡ b → cond b (Row.At k) (scan t x (suc k) n) ≡ Row.At i
-        → (scan t x (suc k) n ≡ Row.At i → (i < suc k + n) × (get_or t (i * 8) 0 ≡ x)) → (i < k + suc n) × (get_or t (i * 8) 0 ≡ x)
+    go : (b : Bool) → eqb (get_or t (k * 8) 0) x ≡ b → cond b (Some k) (scan t x (suc k) n) ≡ Some i
+        → (scan t x (suc k) n ≡ Some i → (i < suc k + n) × (get_or t (i * 8) 0 ≡ x)) → (i < k + suc n) × (get_or t (i * 8) 0 ≡ x)
     go true q f g = let j : k ≡ i = at_same k i f in (omega arith, rw (← j) (eqb-true (get_or t (k * 8) 0) x q))
     go false q f g = (omega (arith, (g f).0), (g f).1)
 
 -- where none is found, none of those looked at has the tag
-pub scan-missing : (t : List ℕ) (x k n : ℕ) → scan t x k n ≡ Row.Nothing → (i : ℕ) → k ≤ i → i < k + n → get_or t (i * 8) 0 ≡ x → ⊥
+pub scan-missing : (t : List ℕ) (x k n : ℕ) → scan t x k n ≡ None → (i : ℕ) → k ≤ i → i < k + n → get_or t (i * 8) 0 ≡ x → ⊥
 unfolding scan
 scan-missing t x k zero e i h l q = omega arith
 scan-missing t x k (suc n) e i h l q = go (eqb (get_or t (k * 8) 0) x) refl e (ℕ_discrete k i) (scan-missing t x (suc k) n)
   where
-    go : (b : Bool) → eqb (get_or t (k * 8) 0) x ≡ b → cond b (Row.At k) (scan t x (suc k) n) ≡ Row.Nothing → Dec (k ≡ i)
-        → (scan t x (suc k) n ≡ Row.Nothing → (i : ℕ) → suc k ≤ i → i < suc k + n → get_or t (i * 8) 0 ≡ x → ⊥) → ⊥
+    go : (b : Bool) → eqb (get_or t (k * 8) 0) x ≡ b → cond b (Some k) (scan t x (suc k) n) ≡ None → Dec (k ≡ i)
+        → (scan t x (suc k) n ≡ None → (i : ℕ) → suc k ≤ i → i < suc k + n → get_or t (i * 8) 0 ≡ x → ⊥) → ⊥
     go true p f d g = not_at k f
     go false p f (yes j) g = eqb-false (get_or t (k * 8) 0) x p (rw j q)
     go false p f (no j) g = g f i (omega arith) (omega arith) q
@@ -219,14 +185,14 @@ module _ (ss : List Slot) (x k n : ℕ) (e : k ≡ length ss) (l : length ss * 8
   rows_all = rows-in (image words ss n) k (omega (arith, length-table ss n l)) ∙ e
 
   -- a row that is found is a slot's, with the tag
-  pub row-found : (i : ℕ) → scan (image words ss n) x 0 (rows_in (image words ss n) k) ≡ Row.At i → (i < length ss) × (slot_tag (get_or ss i empty) ≡ x)
+  pub row-found : (i : ℕ) → scan (image words ss n) x 0 (rows_in (image words ss n) k) ≡ Some i → (i < length ss) × (slot_tag (get_or ss i empty) ≡ x)
   row-found i f =
       let g = scan-found (image words ss n) x 0 (length ss) i (rw rows_all at f) in
       let h : i < length ss = omega (arith, g.0) in
       (h, sym (tag_word ss i n h) ∙ g.1)
 
   -- where none is found, no slot has the tag
-  pub row-missing : scan (image words ss n) x 0 (rows_in (image words ss n) k) ≡ Row.Nothing → look slot_tag x ss ≡ nowhere
+  pub row-missing : scan (image words ss n) x 0 (rows_in (image words ss n) k) ≡ None → look slot_tag x ss ≡ nowhere
   row-missing f =
       Keys.at_none slot_tag empty x ss (λ i h q.
       scan-missing (image words ss n) x 0 (length ss) (rw rows_all at f) i (omega arith) (omega arith) (tag_word ss i n h ∙ q))
@@ -284,17 +250,6 @@ sunk-is at n ss len k h =
     sunk-part at n ss len k (omega arith)
     ∙ rw (h, take_all (length ss) ss (omega arith), drop-length ss, append-nil)
 
--- no row, as a loop starts
-pub sunk-none : (at n : ℕ) (t : List ℕ) → t ≡ sunk at n t 0
-unfolding sunk
-sunk-none at n t = refl
-
--- one row more, as a loop turns
-pub sunk-more : (at n : ℕ) (t : List ℕ) (k k' : ℕ) → k' ≡ suc k
-    → set (sunk at n t k) (k * 8 + 1) (low at n (get_or (sunk at n t k) (k * 8 + 1) 0)) ≡ sunk at n t k'
-unfolding sunk
-sunk-more at n t k k' e = rw e
-
 -- ---- a row goes
 
 -- one slot less
@@ -315,16 +270,6 @@ slot-removed ss i k n e h l =
     (omega (arith, length-words ss)) (omega (arith, length-words ss)) in
     rw (lt-ltb i k a, le-leb (k * 8) (length (image words ss n)) b, slot-in ss i n h, c)
     (sunk-is (get_or ss i empty).at (get_or ss i empty).about.size (remove ss i) n (k - 1) (omega (arith, length-remove ss i h)))
-
--- no such row: nothing changes
-pub removed-none : (t : List ℕ) (count i : ℕ) → count ≤ i → removed t count i ≡ t
-unfolding removed
-removed-none t count i h = rw (le-ltb i count h)
-
--- more rows than the table has: nothing changes
-pub removed-short : (t : List ℕ) (count i : ℕ) → i < count → length t < count * 8 → removed t count i ≡ t
-unfolding removed
-removed-short t count i h l = rw (lt-ltb i count h, lt-leb (count * 8) (length t) l)
 
 -- the row's slot is read, the rows behind it move up, the empty slot comes last, and the areas behind start earlier
 pub removed-steps : (t x y w : List ℕ) (q r : Slot) (count i : ℕ) → i < count → count * 8 ≤ length t → q ≡ slot_at t i

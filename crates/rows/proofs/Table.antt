@@ -4,6 +4,7 @@ use mathlib.Core.Bool.{Bool, true, false}
 use mathlib.Core.List.{List, [], ◌∷◌, ◌++◌, map, flat_map}
 use mathlib.Core.Path.{◌≡◌, refl}
 use lib.ListN.{take}
+use Rattle.std.specs.Prelude.{Option, Some, None}
 use Rattle.octets.specs.declared.Access.{Access}
 use Rattle.octets.specs.declared.Access.TheVariants.{Plain, Password}
 use Rattle.admission.specs.declared.Mode.{Mode}
@@ -11,8 +12,6 @@ use Rattle.admission.specs.declared.Mode.TheVariants.{Both, ReadOnly, WriteOnly}
 use Rattle.rows.specs.Image.{image, closed}
 use Rattle.rows.specs.Keyed.{Maybe, nowhere, here, look, change, without}
 use Rattle.rows.specs.Row.{empty, words, lock_of, slot_in, slot_at, with_held, rows_in, scan, low, sunk, removed}
-use Rattle.rows.specs.declared.Row.{Row}
-use Rattle.rows.specs.declared.Row.TheVariants.{At, Nothing}
 use Rattle.rows.specs.declared.Slot.{Slot}
 
 -- what is computed, and what it has to be
@@ -95,20 +94,20 @@ counts =
     ∷ (rows_in [] 1, 0)
     ∷ []
 
-abbrev scans : List (Row × Row)
+abbrev scans : List (Option ℕ × Option ℕ)
 scans =
-    (scan table 7 0 3, At 0)
-    ∷ (scan table 8 0 3, At 2)
+    (scan table 7 0 3, Some 0)
+    ∷ (scan table 8 0 3, Some 2)
     -- a row past those that are looked at, and one before them
-    ∷ (scan table 8 0 2, Nothing)
-    ∷ (scan table 7 1 2, Nothing)
-    ∷ (scan table 9 1 1, At 1)
+    ∷ (scan table 8 0 2, None)
+    ∷ (scan table 7 1 2, None)
+    ∷ (scan table 9 1 1, Some 1)
     -- another word of a row is no tag
-    ∷ (scan table 5 0 3, Nothing)
+    ∷ (scan table 5 0 3, None)
     -- the first of two
-    ∷ (scan (w2 ++ w1 ++ w1) 7 0 3, At 1)
+    ∷ (scan (w2 ++ w1 ++ w1) 7 0 3, Some 1)
     -- no row
-    ∷ (scan none 0 0 0, Nothing)
+    ∷ (scan none 0 0 0, None)
     ∷ []
 
 pub found-hold : (is counts ≡ should counts) × (is scans ≡ should scans)

@@ -1,12 +1,10 @@
 -- A slot, and the eight words of its row: the tag, where its area starts, the area's size, the held length, mode and SPF, whether there is a password, the password,
 -- and a word that is zero. A row that is not used has the words of the empty slot, which are zero.
-use Rattle.std.specs.Prelude.{ℕ, zero, suc, ◌+◌, ◌-◌, ◌*◌, ◌/◌, false, cond, List, [], ◌∷◌, length, get_or, set, eqb, leb, ltb}
+use Rattle.std.specs.Prelude.{ℕ, zero, suc, ◌+◌, ◌-◌, ◌*◌, ◌/◌, min, false, cond, List, [], ◌∷◌, length, get_or, set, eqb, leb, ltb, Option, Some, None}
 use Rattle.octets.specs.declared.Access.{Access}
 use Rattle.octets.specs.declared.Access.TheVariants.{Plain, Password}
 use Rattle.admission.specs.Mode.{mode_code, code_spf, code_mode}
 use Rattle.admission.specs.declared.Mode.TheVariants.{Both}
-use Rattle.rows.specs.declared.Row.{Row}
-use Rattle.rows.specs.declared.Row.TheVariants.{At, Nothing}
 use Rattle.rows.specs.declared.Slot.{Slot}
 use Rattle.rows.specs.Image.{closed}
 
@@ -75,12 +73,12 @@ with_held t i n = cond (leb (i * 8 + 8) (length t)) (set t (i * 8 + 3) n) t
 
 -- how many of `count` rows the table has
 abbrev pub rows_in : List ℕ → ℕ → ℕ
-rows_in t count = cond (ltb count (length t / 8)) count (length t / 8)
+rows_in t count = min count (length t / 8)
 
 -- the first of the n rows from k on whose tag is x
-unfoldable pub scan : List ℕ → ℕ → ℕ → ℕ → Row
-scan t x k zero = Nothing
-scan t x k (suc n) = cond (eqb (get_or t (k * 8) 0) x) (At k) (scan t x (suc k) n)
+unfoldable pub scan : List ℕ → ℕ → ℕ → ℕ → Option ℕ
+scan t x k zero = None
+scan t x k (suc n) = cond (eqb (get_or t (k * 8) 0) x) (Some k) (scan t x (suc k) n)
 
 -- ---- a row goes
 

@@ -42,22 +42,16 @@ impl Slot {
     const REST: usize = 7;
 }
 
-// Where a tag's row is.
-#[derive(Clone, Copy)]
-pub enum Row {
-    At(usize),
-    Nothing,
-}
-
 // ---- slots and words
 
 fn lock_of(locked: u64, password: u64) -> Access
     ensures { result ≡ lock_of locked password }
 {
     if locked == 0 {
-        return Access::Plain;
+        Access::Plain
+    } else {
+        Access::Password(password)
     }
-    Access::Password(password)
 }
 
 fn lock_word(lock: Access) -> u64
@@ -95,6 +89,7 @@ fn empty() -> Slot
 }
 
 // The slot in row i; past the table, the empty one.
+#[tactic(auto, unfolding(crate::specs::Row::slot_at, crate::specs::Row::slot_in))]
 pub fn get_slot(table: &[u64], i: usize) -> Slot
     ensures { result ≡ slot_at table.now i }
 {
@@ -102,17 +97,14 @@ pub fn get_slot(table: &[u64], i: usize) -> Slot
         return empty();
     }
     let j = i * Slot::WORDS;
-    let w = table[j + Slot::MODE];
-    let spf = admission::code_spf(w);
-    let mode = admission::code_mode(w);
-    let lock = lock_of(table[j + Slot::LOCK], table[j + Slot::PASSWORD]);
+    let code = table[j + Slot::MODE];
     Slot {
         about: Attributes {
             tag: table[j],
             size: table[j + Slot::SIZE] as usize,
-            mode,
-            spf,
-            lock,
+            mode: admission::code_mode(code),
+            spf: admission::code_spf(code),
+            lock: lock_of(table[j + Slot::LOCK], table[j + Slot::PASSWORD]),
         },
         at: table[j + Slot::AT] as usize,
         held: table[j + Slot::HELD] as usize,
@@ -120,6 +112,7 @@ pub fn get_slot(table: &[u64], i: usize) -> Slot
 }
 
 // Row i becomes the slot, if the table has that row.
+#[tactic(auto, unfolding(crate::specs::Row::words, octets::specs::Area::laid))]
 pub fn put_slot(table: &mut [u64], i: usize, slot: Slot)
     ensures { table.new ≡ laid table.old (i * 8) (words slot) }
 {
@@ -128,22 +121,18 @@ pub fn put_slot(table: &mut [u64], i: usize, slot: Slot)
     }
     let j = i * Slot::WORDS;
     let about = slot.about;
-    let mode = about.mode;
-    let lock = about.lock;
-    let w = admission::mode_code(mode, about.spf);
-    let l = lock_word(lock);
-    let p = password_word(lock);
     table[j] = about.tag;
     table[j + Slot::AT] = slot.at as u64;
     table[j + Slot::SIZE] = about.size as u64;
     table[j + Slot::HELD] = slot.held as u64;
-    table[j + Slot::MODE] = w;
-    table[j + Slot::LOCK] = l;
-    table[j + Slot::PASSWORD] = p;
+    table[j + Slot::MODE] = admission::mode_code(about.mode, about.spf);
+    table[j + Slot::LOCK] = lock_word(about.lock);
+    table[j + Slot::PASSWORD] = password_word(about.lock);
     table[j + Slot::REST] = 0;
 }
 
 // The held length in row i becomes n, if the table has that row.
+#[tactic(auto, unfolding(crate::specs::Row::with_held))]
 pub fn put_held(table: &mut [u64], i: usize, n: usize)
     ensures { table.new ≡ with_held table.old i n }
 {
@@ -156,20 +145,17 @@ pub fn put_held(table: &mut [u64], i: usize, n: usize)
 // ---- the table
 
 // The first of `count` rows with this tag, the six bits that are ignored as zero.
-pub fn find_row(table: &[u64], count: usize, tag: u64) -> Row
+#[tactic(auto, unfolding(crate::specs::Row::scan))]
+pub fn find_row(table: &[u64], count: usize, tag: u64) -> Option<usize>
     ensures { result ≡ scan table.now (bare tag) 0 (rows_in table.now count) }
 {
     let id = octets::bare_tag(tag);
-    let rows = table.len() / Slot::WORDS;
-    let n = if count < rows { count } else { rows };
-    let mut i: usize = 0;
-    while i < n {
+    for i in 0..count.min(table.len() / Slot::WORDS) {
         if table[i * Slot::WORDS] == id {
-            return Row::At(i);
+            return Some(i);
         }
-        i += 1;
     }
-    Row::Nothing
+    None
 }
 
 // Where an area starts after n octets at a place before it are gone.
@@ -177,24 +163,21 @@ fn lowered_place(at: usize, n: usize, place: u64) -> u64
     ensures { result ≡ low at n place }
 {
     if place <= at as u64 {
-        return place;
+        place
+    } else {
+        place.saturating_sub(n as u64)
     }
-    if place < n as u64 {
-        return 0;
-    }
-    place - n as u64
 }
 
 // The areas behind a place start earlier by n octets.
+#[tactic(auto, unfolding(crate::specs::Row::sunk))]
 fn lower_places(table: &mut [u64], count: usize, at: usize, n: usize)
     requires { count * 8 ≤ length table.old }
     ensures { table.new ≡ sunk at n table.old count }
 {
-    let mut i: usize = 0;
-    while i < count {
-        let place = lowered_place(at, n, table[i * Slot::WORDS + Slot::AT]);
-        table[i * Slot::WORDS + Slot::AT] = place;
-        i += 1;
+    for i in 0..count {
+        let j = i * Slot::WORDS + Slot::AT;
+        table[j] = lowered_place(at, n, table[j]);
     }
 }
 
@@ -203,21 +186,15 @@ fn move_words(table: &mut [u64], from: usize, to: usize)
     requires { (from ≤ to) × (to + 8 ≤ length table.old) }
     ensures { table.new ≡ sets table.old from (take (to - from) (drop (from + 8) table.old)) }
 {
-    let mut i = from;
-    while i < to {
-        table[i] = table[i + Slot::WORDS];
-        i += 1;
-    }
+    table.copy_within(from + Slot::WORDS..to + Slot::WORDS, from);
 }
 
 // Row i of `count` goes, if there is one: the rows behind it move up, the last is zero, and the areas behind its area start earlier.
+#[tactic(auto, unfolding(crate::specs::Row::removed))]
 pub fn remove_row(table: &mut [u64], count: usize, i: usize)
     ensures { table.new ≡ removed table.old count i }
 {
-    if count <= i {
-        return;
-    }
-    if table.len() / Slot::WORDS < count {
+    if count <= i || table.len() / Slot::WORDS < count {
         return;
     }
     let slot = get_slot(table, i);

@@ -16,8 +16,7 @@ use Rattle.admission.specs.Want.{Allocate, Fit, Free, Read, Write}
 use Rattle.admission.specs.Want as k
 use Rattle.admission.specs.declared.Limits.{Limits}
 use Rattle.admission.specs.declared.Mode.{Mode}
-use Rattle.admission.specs.declared.Verdict.{Verdict}
-use Rattle.admission.specs.declared.Verdict.TheVariants.{Allowed, Denied}
+use Rattle.admission.specs.Denial.{Verdict, Allowed, Denied}
 use Rattle.admission.proofs.Admitted
 use Rattle.rows.specs.Keyed.{Maybe, nowhere, here, without}
 use Rattle.store.specs.Model.{Tag, State, new_unit, holding, tag_id, total, Shared, Proper, Valid, head_of}

@@ -1,5 +1,6 @@
 -- Start gives a sound unit, and every operation leaves one: what an operation promises is all that the next one takes for granted. And the head's count of octets in
 -- use, over the unit's history.
+use Rattle.std.specs.Prelude.{Option, Some, None}
 use Prim.Native.Nat.{ℕ, ◌+◌, ◌*◌, ◌≤◌, ◌<◌}
 use mathlib.Core.Path.{◌≡◌, refl, ap, ◌∙◌}
 use mathlib.Core.Bool.{Bool}
@@ -9,14 +10,13 @@ use lib.ListN.{replicate}
 use borrow.Author.Tests.{lt-ltb, le-ltb}
 use Rattle.admission.specs.declared.Head.{Head}
 use Rattle.admission.specs.declared.Limits.{Limits}
-use Rattle.admission.specs.declared.Verdict.{Verdict}
+use Rattle.admission.specs.Denial.{Verdict}
 use Rattle.rows.specs.Row.{words}
 use Rattle.rows.proofs.Images
 use Rattle.store.specs.Answers.{begun, started, refused, made, Did}
 use Rattle.store.specs.History.{Call, after_all, all_granted, all_freed}
 use Rattle.store.specs.Model.{new_unit, first_kind, head_of, located, arranged, area, Shared, Shows, Sound}
 use Rattle.store.specs.Steps.{Step}
-use Rattle.store.specs.declared.Start.{Start}
 use Rattle.store.proofs.History.{history}
 use Rattle.store.proofs.States.{used-is}
 use Rattle.store.proofs.Valid.{new-valid}
@@ -35,21 +35,21 @@ new-shows l v a p s h = record {
 }
 
 -- the answer of a start: for a version above 15 none is made
-pub start-refused : (r : Start) (l : Limits) (v : ℕ) (a p : Bool) → begun r ≡ started l v a p → 15 < v → r ≡ Start.Refused
+pub start-refused : (r : Option Head) (l : Limits) (v : ℕ) (a p : Bool) → begun r ≡ started l v a p → 15 < v → r ≡ None
 unfolding started
-start-refused (Start.Made h) l v a p e q =
+start-refused (Some h) l v a p e q =
     let b : made h ≡ refused 301 = e ∙ rw (lt-ltb 15 v q) in
     let z : ◌≡◌ {A = ℕ} 0 1 = cc in absurd (omega arith)
-start-refused Start.Refused l v a p e q = refl
+start-refused None l v a p e q = refl
 
 -- and for any other the new unit's head
-pub start-made : (r : Start) (l : Limits) (v : ℕ) (a p : Bool) → begun r ≡ started l v a p → v ≤ 15 → r ≡ Start.Made (head_of (new_unit l v a p))
+pub start-made : (r : Option Head) (l : Limits) (v : ℕ) (a p : Bool) → begun r ≡ started l v a p → v ≤ 15 → r ≡ Some (head_of (new_unit l v a p))
 unfolding started
-start-made (Start.Made h) l v a p e q =
+start-made (Some h) l v a p e q =
     let b : made h ≡ made (head_of (new_unit l v a p)) = e ∙ rw (le-ltb 15 v q) in
     let c : h ≡ head_of (new_unit l v a p) = cc in
-    ap Start.Made c
-start-made Start.Refused l v a p e q =
+    ap Some c
+start-made None l v a p e q =
     let b : refused 301 ≡ made (head_of (new_unit l v a p)) = e ∙ rw (le-ltb 15 v q) in
     let z : ◌≡◌ {A = ℕ} 0 1 = cc in absurd (omega arith)
 
@@ -57,10 +57,10 @@ first-shared : Shared first_kind
 first-shared = record { area = omega arith; message = refl; list = refl }
 
 -- the head that Unit::start gives, with the table and memory of Unit::new, is a sound unit
-pub start-sound : (h : Head) (v : ℕ) (a p : Bool) (table pool : List ℕ) → begun (Start.Made h) ≡ started first_kind v a p → v ≤ 15
+pub start-sound : (h : Head) (v : ℕ) (a p : Bool) (table pool : List ℕ) → begun (Some h) ≡ started first_kind v a p → v ≤ 15
     → (table ≡ replicate (first_kind.tags * 8) 0) × (pool ≡ replicate first_kind.memory 0) → Shows (new_unit first_kind v a p) h table pool
 start-sound h v a p table pool e q n =
-    let b : Start.Made h ≡ Start.Made (head_of (new_unit first_kind v a p)) = start-made (Start.Made h) first_kind v a p e q in
+    let b : Some h ≡ Some (head_of (new_unit first_kind v a p)) = start-made (Some h) first_kind v a p e q in
     let c : h ≡ head_of (new_unit first_kind v a p) = cc in
     rw (c, n.0, n.1) (new-shows first_kind v a p first-shared q)
 

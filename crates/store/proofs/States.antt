@@ -1,4 +1,5 @@
 -- What head, table and memory that stand for a unit tell of it, and what they stand for after each operation. Nothing here knows the order of the table.
+use Rattle.std.specs.Prelude.{Option, Some, None}
 use Prim.Native.Nat.{ℕ, suc, ◌+◌, ◌-◌, ◌*◌, ◌≤◌, ◌<◌}
 use mathlib.Core.Path.{◌≡◌, refl, sym, ap, ◌∙◌}
 use mathlib.Core.List.{List, [], ◌∷◌, ◌++◌, flat_map}
@@ -15,7 +16,6 @@ use Rattle.admission.specs.declared.Head.{Head}
 use Rattle.rows.specs.Image.{image, closed}
 use Rattle.rows.specs.Keyed.{nowhere, here, look, change, without}
 use Rattle.rows.specs.Row.{empty, slot_tag, words, slot_at, with_held, rows_in, scan, removed}
-use Rattle.rows.specs.declared.Row.{Row}
 use Rattle.rows.specs.declared.Slot.{Slot}
 use Rattle.rows.proofs.Places.{remove}
 use Rattle.rows.proofs.Keys
@@ -100,6 +100,10 @@ module _ (u : State) (h : Head) (table pool : List ℕ) (s : Shows u h table poo
       let k = known i l in
       omega (arith, ap (λ (q : Slot). q.at) k.is, ap (λ (q : Slot). q.about.size) k.is, Valid.total-split u.tags k.j k.low, used-is)
 
+  -- so does the area of the slot that a row has, and what is in use lies within the memory
+  pub area-there : (i : ℕ) (q : Slot) → i < h.count → q ≡ slot_at table i → (q.at + q.about.size ≤ h.used) × (h.used ≤ length pool)
+  area-there i q l e = rw e (within-used i l, used-there)
+
   pub held_fits : (i : ℕ) → i < h.count → (slot_at table i).held ≤ (slot_at table i).about.size
   held_fits i l =
       let k = known i l in
@@ -131,7 +135,7 @@ module _ (u : State) (h : Head) (table pool : List ℕ) (s : Shows u h table poo
   -- ---- the row of a tag
 
   module _ (x : ℕ) where
-    in_image : (f : Row) → row_of h table x ≡ f
+    in_image : (f : Option ℕ) → row_of h table x ≡ f
         → scan (image words (arranged u.tags) (u.limits.tags * 8)) (bare x) 0 (rows_in (image words (arranged u.tags) (u.limits.tags * 8)) h.count) ≡ f
     in_image f e = ap (λ (t : List ℕ). scan t (bare x) 0 (rows_in t h.count)) (sym s.rows) ∙ e
 
@@ -139,33 +143,33 @@ module _ (u : State) (h : Head) (table pool : List ℕ) (s : Shows u h table poo
     counted = count-is ∙ sym (Located.length-arranged u.tags)
 
     -- a row that is found is one of those in use, and its tag is the one looked for
-    pub row-found : (i : ℕ) → row_of h table x ≡ Row.At i → (i < h.count) × (slot_tag (slot_at table i) ≡ bare x)
+    pub row-found : (i : ℕ) → row_of h table x ≡ Some i → (i < h.count) × (slot_tag (slot_at table i) ≡ bare x)
     row-found i e =
-        let f = Rows.row-found (arranged u.tags) (bare x) h.count (u.limits.tags * 8) counted rows_fit i (in_image (Row.At i) e) in
+        let f = Rows.row-found (arranged u.tags) (bare x) h.count (u.limits.tags * 8) counted rows_fit i (in_image (Some i) e) in
         let l : i < h.count = omega (arith, f.0, counted) in
         (l, ap slot_tag (slot_is i l) ∙ f.1)
 
-    pub found-tag : (i : ℕ) (e : row_of h table x ≡ Row.At i) → registered u x ≡ here (get_or u.tags (known i (row-found i e).0).j none)
+    pub found-tag : (i : ℕ) (e : row_of h table x ≡ Some i) → registered u x ≡ here (get_or u.tags (known i (row-found i e).0).j none)
     unfolding registered
     found-tag i e =
         let f = row-found i e in
         ap (λ (y : ℕ). look tag_id y u.tags) (sym f.1) ∙ (known i f.0).looked
 
-    pub not_found : row_of h table x ≡ Row.Nothing → registered u x ≡ nowhere
+    pub not_found : row_of h table x ≡ None → registered u x ≡ nowhere
     unfolding registered
     not_found e =
         Located.arranged-none u.tags (bare x)
-        (Rows.row-missing (arranged u.tags) (bare x) h.count (u.limits.tags * 8) counted rows_fit (in_image Row.Nothing e))
+        (Rows.row-missing (arranged u.tags) (bare x) h.count (u.limits.tags * 8) counted rows_fit (in_image None e))
 
     -- what the row tells of the tag is what the unit knows of it
     pub known_is : known_at table (row_of h table x) ≡ known_of (registered u x)
     known_is = go (row_of h table x) refl
       where
-        go : (f : Row) → row_of h table x ≡ f → known_at table f ≡ known_of (registered u x)
-        go (Row.At i) e =
+        go : (f : Option ℕ) → row_of h table x ≡ f → known_at table f ≡ known_of (registered u x)
+        go (Some i) e =
             let k = known i (row-found i e).0 in
             ap (λ (q : Slot). Knowledge.Tag q.about) k.is ∙ sym (ap known_of (found-tag i e))
-        go Row.Nothing e = sym (ap known_of (not_found e))
+        go None e = sym (ap known_of (not_found e))
 
     -- and so is the verdict
     pub verdict-is : (w : Want) (p : Port) (a : Access) → admission h (known_at table (row_of h table x)) w p a ≡ verdict u x w p a

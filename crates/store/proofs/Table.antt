@@ -1,5 +1,6 @@
 -- The definitions at their boundaries: what calls one after another on a new unit are answered, and the words and octets that stand for a small unit. Tables, each
 -- proved by computation. Document 01, 'Tags', 'Denials and their order', 'Lists' and 'Known exchanges'.
+use Rattle.std.specs.Prelude.{Option, Some, None}
 use Prim.Native.Nat.{ℕ, zero, suc}
 use mathlib.Core.Bool.{Bool, true, false}
 use mathlib.Core.List.{List, [], ◌∷◌, ◌++◌, flat_map}
@@ -11,8 +12,7 @@ use Rattle.octets.specs.declared.Port.TheVariants.{Normal, Secure}
 use Rattle.admission.specs.Admission.{unit_managed, admission}
 use Rattle.admission.specs.declared.Head.{Head}
 use Rattle.admission.specs.declared.Mode.TheVariants.{Both, ReadOnly, WriteOnly}
-use Rattle.admission.specs.declared.Verdict.{Verdict}
-use Rattle.admission.specs.declared.Verdict.TheVariants.{Allowed, Denied}
+use Rattle.admission.specs.Denial.{Verdict, Allowed, Denied}
 use Rattle.rows.specs.Image.{image}
 use Rattle.rows.specs.Keyed.{look, change, without}
 use Rattle.rows.specs.Row.{words}
@@ -23,7 +23,6 @@ use Rattle.store.specs.Model.{State, new_unit, first_kind, head_of, total, area,
 use Rattle.store.specs.Raw.{overwritten}
 use Rattle.store.specs.Steps.{Content, content, denied, registered, write_step, free_step, allocate_step, fit_step, read_step, remainder}
 use Rattle.store.specs.declared.Found.{Found}
-use Rattle.store.specs.declared.Found.TheVariants as f
 use Rattle.store.specs.declared.Remaining.{Remaining}
 
 -- ---- tags and calls
@@ -223,23 +222,23 @@ contents-hold = refl
 
 -- ---- what is found after calls: the ignored bits are zero
 
-abbrev find : List Call → ℕ → Found
+abbrev find : List Call → ℕ → Option Found
 find cs x = found (registered (unit cs) x)
 
 -- K with an area of 3, plain, for both modes, so many octets held
-abbrev K3 : ℕ → Found
-K3 n = f.Tag (record { tag = K; size = 3; mode = Both; spf = false; lock = Plain }) n
+abbrev K3 : ℕ → Option Found
+K3 n = Some (record { about = record { tag = K; size = 3; mode = Both; spf = false; lock = Plain }; held = n })
 
-abbrev finds : List (Found × Found)
+abbrev finds : List (Option Found × Option Found)
 finds =
-    (find [] K, f.Nothing)
+    (find [] K, None)
     ∷ (find two K3F, K3 3)
     ∷ (find (two ++ put K (7 ∷ []) ∷ []) K, K3 1)
-    ∷ (find (two ++ gone K ∷ []) K, f.Nothing)
+    ∷ (find (two ++ gone K ∷ []) K, None)
     ∷ (find (two ++ gone K ∷ new K3F 3 ∷ []) K, K3 0)
     -- all that an allocation or a fitting asks for
-    ∷ (find (allocate K3F 3 ReadOnly true Normal (Password 0) ∷ []) K, f.Tag (record { tag = K; size = 3; mode = ReadOnly; spf = true; lock = Password 0 }) 0)
-    ∷ (find (fit U 4 WriteOnly false (Password P) (8 ∷ 9 ∷ []) ∷ []) U, f.Tag (record { tag = U; size = 4; mode = WriteOnly; spf = false; lock = Password P }) 2)
+    ∷ (find (allocate K3F 3 ReadOnly true Normal (Password 0) ∷ []) K, Some (record { about = record { tag = K; size = 3; mode = ReadOnly; spf = true; lock = Password 0 }; held = 0 }))
+    ∷ (find (fit U 4 WriteOnly false (Password P) (8 ∷ 9 ∷ []) ∷ []) U, Some (record { about = record { tag = U; size = 4; mode = WriteOnly; spf = false; lock = Password P }; held = 2 }))
     ∷ []
 
 pub finds-hold : is finds ≡ should finds

@@ -16,8 +16,7 @@ use Rattle.admission.specs.Want.{Allocate, Fit, Free, Read, Write}
 use Rattle.admission.specs.Want as k
 use Rattle.admission.specs.declared.Attributes.{Attributes}
 use Rattle.admission.specs.declared.Mode.{Mode}
-use Rattle.admission.specs.declared.Verdict.{Verdict}
-use Rattle.admission.specs.declared.Verdict.TheVariants.{Allowed, Denied}
+use Rattle.admission.specs.Denial.{Verdict, Allowed, Denied}
 use Rattle.admission.proofs.Admitted
 use Rattle.rows.specs.Keyed.{nowhere, here, look, change, Apart}
 use Rattle.rows.specs.Row.{empty}

@@ -9,8 +9,7 @@ use Rattle.admission.specs.Admission.{admission}
 use Rattle.admission.specs.Want.{Want, Allocate, Fit, Write}
 use Rattle.admission.specs.Want as k
 use Rattle.admission.specs.declared.Attributes.{Attributes}
-use Rattle.admission.specs.declared.Verdict.{Verdict}
-use Rattle.admission.specs.declared.Verdict.TheVariants.{Allowed, Denied}
+use Rattle.admission.specs.Denial.{Verdict, Allowed, Denied}
 use Rattle.admission.proofs.Admitted
 use Rattle.rows.specs.Keyed.{Maybe, nowhere, here}
 use Rattle.store.specs.Model.{Tag, State, holding, head_of}

@@ -1,4 +1,7 @@
 -- By the way that an operation goes: its answer and what it leaves are the step's.
+use Rattle.std.specs.Prelude.{Option, Some, None, Result, Ok, Err, IsErr, IsErrAnd}
+use Rattle.std.specs.Option.{ok_or}
+use Rattle.std.proofs.Common.{rules}
 use Prim.Native.Nat.{ℕ, ◌+◌, ◌*◌, ◌≤◌, ◌<◌}
 use mathlib.Core.Path.{◌≡◌, refl, sym, ap, ◌∙◌}
 use mathlib.Core.Bool.{Bool}
@@ -18,24 +21,30 @@ use Rattle.admission.specs.Want as k
 use Rattle.admission.specs.declared.Attributes.{Attributes}
 use Rattle.admission.specs.declared.Head.{Head}
 use Rattle.admission.specs.declared.Mode.{Mode}
-use Rattle.admission.specs.declared.Verdict.{Verdict}
-use Rattle.admission.specs.declared.Verdict.TheVariants.{Allowed, Denied}
+use Rattle.admission.specs.Denial.{number, Verdict, Allowed, Denied}
+use Rattle.admission.specs.declared.Denial.{Denial}
 use Rattle.admission.proofs.Admitted
 use Rattle.rows.specs.Keyed.{here, look, change, without}
 use Rattle.rows.specs.Row.{empty, slot_tag, words, slot_at, with_held}
-use Rattle.rows.specs.declared.Row.{Row}
 use Rattle.rows.specs.declared.Slot.{Slot}
 use Rattle.rows.proofs.Keys
 use Rattle.store.specs.Answers.{Did, found, held_at, ReadOf}
 use Rattle.store.specs.Model.{Tag, State, tag_id, holding, arranged, Shows}
 use Rattle.store.specs.Raw.{row_of, known_at, overwritten, head_with}
 use Rattle.store.specs.Steps.{registered, verdict, acted, written, asked, more, write_step, free_step, allocate_step, fit_step, content, content_by, held_by, read_step}
-use Rattle.store.specs.declared.Found.{Found}
-use Rattle.store.specs.declared.Held.{Held}
 use Rattle.store.proofs.Located
 use Rattle.store.proofs.States
 use Rattle.store.proofs.Told
 use Rattle.store.proofs.Valid
+
+-- the row that has to be there is
+pub there : (o : Option ℕ) (i : ℕ) → Ok i ≡ ok_or o Denial.Tag → o ≡ Some i
+there (Some j) i e = let z : i ≡ j = cc in ap Some (sym z)
+there None i e = let z : ◌≡◌ {A = ℕ} 0 1 = cc in absurd (omega arith)
+
+-- what `?` hands on is the error that it met
+pub handed : {A : Type 0} (r : Result A Denial) (d : Denial) → IsErr r × IsErrAnd r (λ e. e ≡ d) → r ≡ Err d
+handed r d h = search rules
 
 -- ---- of any table
 
@@ -45,25 +54,29 @@ module _ (h : Head) (table : List ℕ) (x : ℕ) (w : Want) (p : Port) (a : Acce
   Judged v = v ≡ admission h (known_at table (row_of h table x)) w p a
 
   -- a tag that has a row is known by its slot
-  pub by_row : (i : ℕ) (q : Slot) (v : Verdict) → row_of h table x ≡ Row.At i → q ≡ slot_at table i → v ≡ admission h (k.Tag q.about) w p a → Judged v
+  pub by_row : (i : ℕ) (q : Slot) (v : Verdict) → row_of h table x ≡ Some i → q ≡ slot_at table i → v ≡ admission h (k.Tag q.about) w p a → Judged v
   by_row i q v f eq e =
-      e ∙ ap (λ (r : Slot). admission h (k.Tag r.about) w p a) eq ∙ ap (λ (g : Row). admission h (known_at table g) w p a) (sym f)
+      e ∙ ap (λ (r : Slot). admission h (k.Tag r.about) w p a) eq ∙ ap (λ (g : Option ℕ). admission h (known_at table g) w p a) (sym f)
 
-  -- a tag that has none is a stranger
-  pub by-none : (v : Verdict) → row_of h table x ≡ Row.Nothing → admission h k.Nothing w p a ≡ v → Judged v
-  by-none v f e = sym e ∙ ap (λ (g : Row). admission h (known_at table g) w p a) (sym f)
+  -- a tag that has none is a stranger, which the number 6 denies
+  pub by-none : (d : Denial) → Err d ≡ ok_or (row_of h table x) Denial.Tag → admission h k.Nothing w p a ≡ Denied 6 → Judged (Denied (number d))
+  by-none d f e = go (row_of h table x) f
+    where
+      go : (o : Option ℕ) → Err d ≡ ok_or o Denial.Tag → Denied (number d) ≡ admission h (known_at table o) w p a
+      go (Some i) g = let z : ◌≡◌ {A = ℕ} 0 1 = cc in absurd (omega arith)
+      go None g = let z : d ≡ Denial.Tag = cc in rw z (sym e)
 
 -- ---- of a table that stands for a unit
 
 module _ (u : State) (h : Head) (table pool : List ℕ) (s : Shows u h table pool) (x : ℕ) where
   -- find
 
-  pub find-there : (i : ℕ) → row_of h table x ≡ Row.At i → Found.Tag (slot_at table i).about (slot_at table i).held ≡ found (registered u x)
+  pub find-there : (i : ℕ) → row_of h table x ≡ Some i → Some (record { about = (slot_at table i).about; held = (slot_at table i).held }) ≡ found (registered u x)
   find-there i e =
       let c = States.known u h table pool s i (States.row-found u h table pool s x i e).0 in
-      ap (λ (q : Slot). Found.Tag q.about q.held) c.is ∙ sym (ap found (States.found-tag u h table pool s x i e))
+      ap (λ (q : Slot). Some (record { about = q.about; held = q.held })) c.is ∙ sym (ap found (States.found-tag u h table pool s x i e))
 
-  pub find_none : row_of h table x ≡ Row.Nothing → Found.Nothing ≡ found (registered u x)
+  pub find_none : row_of h table x ≡ None → None ≡ found (registered u x)
   find_none e = sym (ap found (States.not_found u h table pool s x e))
 
   module _ (w : Want) (p : Port) (a : Access) where
@@ -82,10 +95,10 @@ module _ (u : State) (h : Head) (table pool : List ℕ) (s : Shows u h table poo
   -- ---- what is denied of a tag that has a row or none
 
   module _ (p : Port) (a : Access) where
-    pub read-denied : (d : ℕ) → Judged h table x Read p a (Denied d) → ReadOf u x p a pool (Held.Denied d)
+    pub read-denied : (d : Denial) → Judged h table x Read p a (Denied (number d)) → ReadOf u x p a pool (Err d)
     unfolding read_step
     read-denied d q =
-        let v = told Read p a (Denied d) q in
+        let v = told Read p a (Denied (number d)) q in
         record {
           exact = sym (ap (λ (r : Verdict). held_at r (look slot_tag (bare x) (arranged u.tags))) v);
           says = sym (ap (λ (r : Verdict). content_by r (held_by (registered u x))) v);
@@ -102,11 +115,11 @@ module _ (u : State) (h : Head) (table pool : List ℕ) (s : Shows u h table poo
 
     -- ---- what is allowed of a tag that has a row
 
-    module _ (i : ℕ) (f : row_of h table x ≡ Row.At i) (q : Slot) (eq : q ≡ slot_at table i) where
+    module _ (i : ℕ) (f : row_of h table x ≡ Some i) (q : Slot) (eq : q ≡ slot_at table i) where
       abbrev row : (i < h.count) × (slot_tag (slot_at table i) ≡ bare x)
       row = States.row-found u h table pool s x i f
 
-      pub read-done : Allowed ≡ admission h (k.Tag q.about) Read p a → ReadOf u x p a pool (Held.Data (record { start = q.at; len = q.held }))
+      pub read-done : Allowed ≡ admission h (k.Tag q.about) Read p a → ReadOf u x p a pool (Ok (record { start = q.at; len = q.held }))
       unfolding read_step
       read-done y =
           let v = told Read p a Allowed (by_row h table x Read p a i q Allowed f eq y) in

@@ -11,8 +11,7 @@ use Rattle.admission.specs.Want as k
 use Rattle.admission.specs.declared.Attributes.{Attributes}
 use Rattle.admission.specs.declared.Head.{Head}
 use Rattle.admission.specs.declared.Mode.{Mode}
-use Rattle.admission.specs.declared.Verdict.{Verdict}
-use Rattle.admission.specs.declared.Verdict.TheVariants.{Allowed, Denied}
+use Rattle.admission.specs.Denial.{Verdict, Allowed, Denied}
 use Rattle.rows.specs.Keyed.{Maybe, nowhere, here, look, change, without}
 use Rattle.store.specs.Model.{Tag, State, tag_id, holding, head_of}
 use Rattle.store.specs.declared.Remaining.{Remaining}

@@ -5,20 +5,22 @@
 #![tactic(auto)]
 
 ghost use Rattle.std.specs.Prelude.{◌≡◌, List, ℕ, ◌+◌, ◌-◌, ◌*◌, ◌≤◌, ◌<◌, length, replicate};
+ghost use Rattle.std.specs.Option.{ok_or};
 ghost use Rattle.std.proofs.lemmas.List.Edits.{sets};
 ghost use Rattle.octets.specs.Area.{laid};
+ghost use Rattle.admission.specs.Denial.{verdict_of};
 ghost use Rattle.admission.specs.Want.{is_tag};
 ghost use Rattle.rows.specs.Image.{closed};
 ghost use Rattle.rows.specs.Keyed.{without};
 ghost use Rattle.rows.specs.Row.{words, slot_at, slot_tag, with_held};
 ghost use Rattle.store.specs.Model.{State, tag_id, holding, first_kind, Shows, Sound};
-ghost use Rattle.store.specs.Steps.{write_step, free_step, allocate_step, fit_step, registered, remainder as remainder_of};
-ghost use Rattle.store.specs.Answers.{begun, started, Did, found, ReadOf};
+ghost use Rattle.store.specs.Steps.{write_step, free_step, allocate_step, fit_step, registered, asked as asked_attributes, remainder as remainder_of};
+ghost use Rattle.store.specs.Answers.{begun, started, Did, head_after, found, ReadOf};
 ghost use Rattle.store.specs.Raw.{row_of, known_at, overwritten, head_with};
 
-use admission::{Attributes, Head, Limits, Mode, Verdict};
+use admission::{Attributes, Denial, Head, Limits, Mode};
 use octets::{Access, Port, Span};
-use rows::{Row, Slot};
+use rows::Slot;
 
 // ---- a unit
 
@@ -28,13 +30,6 @@ use rows::{Row, Slot};
 pub struct Unit {
     pub table: [u64; Unit::WORDS],
     pub pool: [u8; Unit::MEMORY],
-}
-
-#[derive(Clone, Copy)]
-pub enum Start {
-    Made(Head),
-    // 301.
-    Refused,
 }
 
 impl Unit {
@@ -60,14 +55,15 @@ impl Unit {
         }
     }
 
-    // The head of a new unit, with its version and its two options.
-    pub fn start(version: u8, allocation: bool, passwords: bool) -> Start
+    // The head of a new unit, with its version and its two options. None is 301.
+    #[tactic(auto, unfolding(crate::specs::Answers::started, crate::specs::Model::total))]
+    pub fn start(version: u8, allocation: bool, passwords: bool) -> Option<Head>
         ensures { begun result ≡ started first_kind version allocation passwords }
     {
         if 15 < version {
-            return Start::Refused;
+            return None;
         }
-        Start::Made(Head {
+        Some(Head {
             limits: Limits {
                 tags: Unit::TAGS,
                 memory: Unit::MEMORY,
@@ -86,28 +82,23 @@ impl Unit {
 
 // ---- operations that change nothing
 
+// A registered tag: what is fixed of it, and its held length.
 #[derive(Clone, Copy)]
-pub enum Found {
-    Tag { about: Attributes, held: usize },
-    Nothing,
+pub struct Found {
+    pub about: Attributes,
+    pub held: usize,
 }
 
-// A registered tag: what is fixed of it, and its held length.
-pub fn find(head: Head, table: &[u64], tag: u64) -> Found
+// The tag, if it is registered.
+pub fn find(head: Head, table: &[u64], tag: u64) -> Option<Found>
     ensures { (u : State) (pool : List ℕ) → Shows u head table.now pool → result ≡ found (registered u tag) }
 {
-    let row = rows::find_row(table, head.count, tag);
-    match row {
-        Row::At(i) => {
-            let slot = rows::get_slot(table, i);
-            let about = slot.about;
-            Found::Tag {
-                about,
-                held: slot.held,
-            }
-        }
-        Row::Nothing => Found::Nothing,
-    }
+    let i = rows::find_row(table, head.count, tag)?;
+    let slot = rows::get_slot(table, i);
+    Some(Found {
+        about: slot.about,
+        held: slot.held,
+    })
 }
 
 #[derive(Clone, Copy)]
@@ -116,56 +107,38 @@ pub struct Remaining {
     pub octets: usize,
 }
 
-// Never below zero.
-fn less(a: usize, b: usize) -> usize
-    ensures { result ≡ a - b }
-{
-    if a < b {
-        return 0;
-    }
-    a - b
-}
-
 // How many tags and octets are left for gates to allocate.
 pub fn remainder(head: Head) -> Remaining
     ensures { result ≡ remainder_of head }
 {
     if head.allocation {
-        return Remaining {
-            tags: less(head.limits.tags, head.count),
-            octets: less(head.limits.memory, head.used),
-        };
+        Remaining {
+            tags: head.limits.tags.saturating_sub(head.count),
+            octets: head.limits.memory.saturating_sub(head.used),
+        }
+    } else {
+        Remaining { tags: 0, octets: 0 }
     }
-    Remaining { tags: 0, octets: 0 }
 }
 
-#[derive(Clone, Copy)]
-pub enum Held {
-    // The place of the data in the memory.
-    Data(Span),
-    Denied(u8),
+// The row of a tag that has to be registered.
+fn registered_row(head: Head, table: &[u64], tag: u64) -> Result<usize, Denial>
+    ensures { result ≡ ok_or (row_of head table.now tag) Denial.Tag }
+{
+    rows::find_row(table, head.count, tag).ok_or(Denial::Tag)
 }
 
-// What a tag holds.
-pub fn read(head: Head, table: &[u64], tag: u64, port: Port, access: Access) -> Held
+// What a tag holds: the place of the data in the memory.
+pub fn read(head: Head, table: &[u64], tag: u64, port: Port, access: Access) -> Result<Span, Denial>
     ensures { (u : State) (pool : List ℕ) → Shows u head table.now pool → ReadOf u tag port access pool result }
 {
-    let row = rows::find_row(table, head.count, tag);
-    match row {
-        Row::Nothing => Held::Denied(6),
-        Row::At(i) => {
-            let slot = rows::get_slot(table, i);
-            let about = slot.about;
-            let verdict = admission::admit_read(about, port, access);
-            match verdict {
-                Verdict::Denied(number) => Held::Denied(number),
-                Verdict::Allowed => Held::Data(Span {
-                    start: slot.at,
-                    len: slot.held,
-                }),
-            }
-        }
-    }
+    let i = registered_row(head, table, tag)?;
+    let slot = rows::get_slot(table, i);
+    admission::admit_read(slot.about, port, access)?;
+    Ok(Span {
+        start: slot.at,
+        len: slot.held,
+    })
 }
 
 // ---- write
@@ -175,22 +148,20 @@ fn clear(pool: &mut [u8], from: usize, to: usize)
     requires { to ≤ length pool.old }
     ensures { pool.new ≡ sets pool.old from (replicate (to - from) 0) }
 {
-    let mut i = from;
-    while i < to {
-        pool[i] = 0;
-        i += 1;
+    if from < to {
+        pool[from..to].fill(0);
     }
 }
 
 // The data comes to the start of an area, with zeros up to the end of what was held there, and its length into the row. Behind what was held the area is zero already.
-fn put(table: &mut [u64], pool: &mut [u8], row: usize, at: usize, held: usize, src: &[u8])
-    requires { (at + length src.now ≤ length pool.old) × (at + held ≤ length pool.old) }
+fn put(table: &mut [u64], pool: &mut [u8], row: usize, slot: Slot, src: &[u8])
+    requires { (slot.at + length src.now ≤ length pool.old) × (slot.at + slot.held ≤ length pool.old) }
     ensures { (table.new ≡ with_held table.old row (length src.now))
-        × (pool.new ≡ overwritten pool.old at held src.now) }
+        × (pool.new ≡ overwritten pool.old slot.at slot.held src.now) }
 {
     let n = src.len();
-    octets::copy(pool, at, src);
-    clear(pool, at + n, at + held);
+    octets::copy(pool, slot.at, src);
+    clear(pool, slot.at + n, slot.at + slot.held);
     rows::put_held(table, row, n);
 }
 
@@ -203,37 +174,19 @@ pub fn write(
     src: &[u8],
     port: Port,
     access: Access,
-) -> Verdict
+) -> Result<(), Denial>
     requires { Sound head table.old pool.old }
     ensures { (u : State) → Shows u head table.old pool.old
-        → Did (write_step u tag src.now port access) result head table.new pool.new }
+        → Did (write_step u tag src.now port access) (verdict_of result) head table.new pool.new }
 {
-    let row = rows::find_row(table, head.count, tag);
-    match row {
-        Row::Nothing => Verdict::Denied(6),
-        Row::At(i) => {
-            let slot = rows::get_slot(table, i);
-            let about = slot.about;
-            let verdict = admission::admit_write(about, src.len(), port, access);
-            match verdict {
-                Verdict::Denied(number) => Verdict::Denied(number),
-                Verdict::Allowed => {
-                    put(table, pool, i, slot.at, slot.held, src);
-                    Verdict::Allowed
-                }
-            }
-        }
-    }
+    let i = registered_row(head, table, tag)?;
+    let slot = rows::get_slot(table, i);
+    admission::admit_write(slot.about, src.len(), port, access)?;
+    put(table, pool, i, slot, src);
+    Ok(())
 }
 
 // ---- free
-
-// What an operation that changes which tags there are leaves of the head, and its verdict.
-#[derive(Clone, Copy)]
-pub struct Outcome {
-    pub head: Head,
-    pub verdict: Verdict,
-}
 
 // The n octets at a place go: those behind them, up to the end of what is in use, move up, each of them once, and zeros come in.
 fn close(pool: &mut [u8], at: usize, n: usize, end: usize)
@@ -241,10 +194,8 @@ fn close(pool: &mut [u8], at: usize, n: usize, end: usize)
     ensures { pool.new ≡ closed pool.old at n end }
 {
     let last = end - n;
-    let mut i = at;
-    while i < last {
+    for i in at..last {
         pool[i] = pool[i + n];
-        i += 1;
     }
     clear(pool, last, end);
 }
@@ -266,7 +217,7 @@ fn remove(head: Head, table: &mut [u64], pool: &mut [u8], row: usize, slot: Slot
     }
 }
 
-// Frees a tag: its room is used again.
+// Frees a tag: its room is used again. It gives the new head; of a denial the head is as it was.
 pub fn free(
     head: Head,
     table: &mut [u64],
@@ -274,33 +225,15 @@ pub fn free(
     tag: u64,
     port: Port,
     access: Access,
-) -> Outcome
+) -> Result<Head, Denial>
     requires { Sound head table.old pool.old }
     ensures { (u : State) → Shows u head table.old pool.old
-        → Did (free_step u tag port access) result.verdict result.head table.new pool.new }
+        → Did (free_step u tag port access) (verdict_of result) (head_after head result) table.new pool.new }
 {
-    let row = rows::find_row(table, head.count, tag);
-    match row {
-        Row::Nothing => Outcome {
-            head,
-            verdict: Verdict::Denied(6),
-        },
-        Row::At(i) => {
-            let slot = rows::get_slot(table, i);
-            let about = slot.about;
-            let verdict = admission::admit_free(about, port, access);
-            match verdict {
-                Verdict::Denied(number) => Outcome {
-                    head,
-                    verdict: Verdict::Denied(number),
-                },
-                Verdict::Allowed => Outcome {
-                    head: remove(head, table, pool, i, slot),
-                    verdict: Verdict::Allowed,
-                },
-            }
-        }
-    }
+    let i = registered_row(head, table, tag)?;
+    let slot = rows::get_slot(table, i);
+    admission::admit_free(slot.about, port, access)?;
+    Ok(remove(head, table, pool, i, slot))
 }
 
 // ---- new tags
@@ -308,10 +241,19 @@ pub fn free(
 fn is_registered(head: Head, table: &[u64], tag: u64) -> bool
     ensures { is_tag (known_at table.now (row_of head table.now tag)) ≡ result }
 {
-    let row = rows::find_row(table, head.count, tag);
-    match row {
-        Row::At(_) => true,
-        Row::Nothing => false,
+    rows::find_row(table, head.count, tag).is_some()
+}
+
+// What is asked for a new tag.
+fn asked(tag: u64, size: u32, mode: Mode, spf: bool, lock: Access) -> Attributes
+    ensures { result ≡ asked_attributes tag size mode spf lock }
+{
+    Attributes {
+        tag: octets::bare_tag(tag),
+        size: size as usize,
+        mode,
+        spf,
+        lock,
     }
 }
 
@@ -346,29 +288,13 @@ pub fn allocate(
     spf: bool,
     port: Port,
     access: Access,
-) -> Outcome
+) -> Result<Head, Denial>
     ensures { (u : State) (pool : List ℕ) → Shows u head table.old pool
-        → Did (allocate_step u tag size mode spf port access) result.verdict result.head table.new pool }
+        → Did (allocate_step u tag size mode spf port access) (verdict_of result) (head_after head result) table.new pool }
 {
-    let new = Attributes {
-        tag: octets::bare_tag(tag),
-        size: size as usize,
-        mode,
-        spf,
-        lock: access,
-    };
-    let registered = is_registered(head, table, tag);
-    let verdict = admission::admit_allocate(head, registered, new);
-    match verdict {
-        Verdict::Denied(number) => Outcome {
-            head,
-            verdict: Verdict::Denied(number),
-        },
-        Verdict::Allowed => Outcome {
-            head: register(head, table, new, 0),
-            verdict: Verdict::Allowed,
-        },
-    }
+    let new = asked(tag, size, mode, spf, access);
+    admission::admit_allocate(head, is_registered(head, table, tag), new)?;
+    Ok(register(head, table, new, 0))
 }
 
 // Fits a unit-managed tag for the vehicle, with its first data.
@@ -382,30 +308,12 @@ pub fn fit(
     spf: bool,
     lock: Access,
     src: &[u8],
-) -> Outcome
+) -> Result<Head, Denial>
     ensures { (u : State) → Shows u head table.old pool.old
-        → Did (fit_step u tag size mode spf lock src.now) result.verdict result.head table.new pool.new }
+        → Did (fit_step u tag size mode spf lock src.now) (verdict_of result) (head_after head result) table.new pool.new }
 {
-    let new = Attributes {
-        tag: octets::bare_tag(tag),
-        size: size as usize,
-        mode,
-        spf,
-        lock,
-    };
-    let registered = is_registered(head, table, tag);
-    let verdict = admission::admit_fit(head, registered, new, src.len());
-    match verdict {
-        Verdict::Denied(number) => Outcome {
-            head,
-            verdict: Verdict::Denied(number),
-        },
-        Verdict::Allowed => {
-            octets::copy(pool, head.used, src);
-            Outcome {
-                head: register(head, table, new, src.len()),
-                verdict: Verdict::Allowed,
-            }
-        }
-    }
+    let new = asked(tag, size, mode, spf, lock);
+    admission::admit_fit(head, is_registered(head, table, tag), new, src.len())?;
+    octets::copy(pool, head.used, src);
+    Ok(register(head, table, new, src.len()))
 }

@@ -1,7 +1,5 @@
 use mathlib.Core.Path.{ap, ◌∙◌}
-use Prim.Native.Nat.{◌+◌, ◌≤◌}
 use native.Mathlib.Omega.{arith}
-use lib.ListN.{length}
 use Rattle.rows.specs.Image.{closed}
 use Rattle.rows.specs.Row.{slot_tag}
 use Rattle.rows.specs.declared.Slot.{Slot}
@@ -9,10 +7,11 @@ use Rattle.store.proofs.States
 use Rattle.store.proofs.remove.Goals as goal
 
 pub close-requires : goal.close-requires
-close-requires c = (let fact : (c.args.slot.at + c.args.slot.about.size ≤ c.args.head.used) × (c.args.head.used ≤ length c.args.pool.now) = rw c.requires.row_there.1 (States.within-used _ _ _ _ c.requires.sound.shown _ c.requires.row_there.0, States.used-there _ _ _ _ c.requires.sound.shown) in fact)
+close-requires c = States.area-there _ _ _ _ c.requires.sound.shown _ _ c.requires.row_there.0 c.requires.row_there.1
 
 pub overflow_sub-result-2 : goal.overflow_sub-result-2
-overflow_sub-result-2 c = omega (arith, ((let fact : (c.args.slot.at + c.args.slot.about.size ≤ c.args.head.used) × (c.args.head.used ≤ length c.args.pool.now) = rw c.requires.row_there.1 (States.within-used _ _ _ _ c.requires.sound.shown _ c.requires.row_there.0, States.used-there _ _ _ _ c.requires.sound.shown) in fact)).0)
+overflow_sub-result-2 c =
+    omega (arith, (States.area-there _ _ _ _ c.requires.sound.shown _ _ c.requires.row_there.0 c.requires.row_there.1).0)
 
 pub returns : goal.returns
 returns c = λ u s.
