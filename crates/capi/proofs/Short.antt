@@ -22,8 +22,8 @@ use Rattle.store.specs.Model.{State, Valid}
 use Rattle.responder.specs.Entry.{word_of, word_for, Responded}
 use Rattle.responder.specs.Respond.{Result, silent, replied, respond}
 use Rattle.responder.specs.declared.Reply.{Reply}
-use Rattle.responder.specs.declared.Sent.{Sent}
-use Rattle.responder.specs.declared.Sent.TheVariants as s
+use Rattle.responder.specs.Entry.{Sent}
+use Rattle.std.specs.Prelude.{Some, None}
 use Rattle.responder.proofs.Writable.{respond-short}
 use Rattle.capi.specs.Result.{WrittenShort, SentShort}
 
@@ -72,6 +72,6 @@ pub respond-sent-short : (u : State) (p : Port) (q area : List ℕ) (r : Reply) 
 respond-sent-short u p q area r new table pool v o d = go r.sent (respond u p q (length area)).result refl d.says
   where
     go : (t : Sent) (x : Result) → (respond u p q (length area)).result ≡ x → word_of t ≡ word_for x → SentShort t
-    go s.NoRoom x e k = tt
-    go (s.Answer n) (silent m) e k = let z : ◌≡◌ {A = ℕ} 0 1 = cc in absurd (omega arith)
-    go (s.Answer n) (replied a) e k = let z : n ≡ length (answer_octets a) = cc in omega (arith, respond-short u p q (length area) a v o e)
+    go None x e k = tt
+    go (Some n) (silent m) e k = let z : ◌≡◌ {A = ℕ} 0 1 = cc in absurd (omega arith)
+    go (Some n) (replied a) e k = let z : n ≡ length (answer_octets a) = cc in omega (arith, respond-short u p q (length area) a v o e)

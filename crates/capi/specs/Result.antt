@@ -7,8 +7,8 @@ use Rattle.octets.specs.declared.Written.TheVariants as w
 use Rattle.admission.specs.Denial.{Verdict}
 use Rattle.admission.specs.Denial as v
 use Rattle.responder.specs.Entry.{Word, length-is, refusal}
-use Rattle.responder.specs.declared.Sent.{Sent}
-use Rattle.responder.specs.declared.Sent.TheVariants as s
+use Rattle.responder.specs.Entry.{Sent}
+use Rattle.std.specs.Prelude.{Some, None}
 
 -- what there is to tell, or minus the number of the refusal
 abbrev pub number_of : Outcome → ℤ
@@ -33,5 +33,5 @@ WrittenShort w.NoRoom = Unit {0}
 
 -- nor any answer
 abbrev pub SentShort : Sent → Type 0
-SentShort (s.Answer n) = n ≤ 2048
-SentShort s.NoRoom = Unit {0}
+SentShort (Some n) = n ≤ 2048
+SentShort None = Unit {0}

@@ -17,8 +17,8 @@ use Rattle.responder.specs.Respond.{Result, silent, replied, respond}
 use Rattle.responder.specs.Entry.{spoken}
 use Rattle.responder.specs.Entry as e
 use Rattle.responder.specs.declared.Reply.{Reply}
-use Rattle.responder.specs.declared.Sent.{Sent}
-use Rattle.responder.specs.declared.Sent.TheVariants as s
+use Rattle.responder.specs.Entry.{Sent}
+use Rattle.std.specs.Prelude.{Some, None}
 use Rattle.records.specs.Text.{bad_words, answer_line}
 use Rattle.records.specs.Record.{Front, whole, front_after}
 use Rattle.records.specs.Output.{answer_to, end_lines, stop_lines}
@@ -50,12 +50,12 @@ module _ (certain : Bool) (lines : List ℕ) (at : ℕ) (old : List ℕ) where
 
 -- what the responder says and writes are the octets of the answer
 spoken-area : (o : Result) (r : Sent) (old area : List ℕ) → e.word_of r ≡ e.word_for o → area ≡ e.area_for o old → take (length_of r) area ≡ spoken o
-spoken-area (silent n) (s.Answer m) old area w h = let z : ◌≡◌ {A = ℕ} 0 1 = cc in absurd (omega arith)
-spoken-area (silent n) s.NoRoom old area w h = refl
-spoken-area (replied a) (s.Answer m) old area w h =
+spoken-area (silent n) (Some m) old area w h = let z : ◌≡◌ {A = ℕ} 0 1 = cc in absurd (omega arith)
+spoken-area (silent n) None old area w h = refl
+spoken-area (replied a) (Some m) old area w h =
     let z : m ≡ length (answer_octets a) = cc in
     ap (take m) h ∙ take_at (answer_octets a) (drop (length (answer_octets a)) old) m (sym z)
-spoken-area (replied a) s.NoRoom old area w h = let z : ◌≡◌ {A = ℕ} 0 1 = cc in absurd (omega arith)
+spoken-area (replied a) None old area w h = let z : ◌≡◌ {A = ℕ} 0 1 = cc in absurd (omega arith)
 
 -- an answer in an area of 2,048 octets, and its line, have room
 pub length_part : (k : ℕ) (area : List ℕ) → length area ≡ 2048 → length (take k area) ≤ 2048

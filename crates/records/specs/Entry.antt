@@ -1,7 +1,7 @@
 -- What the entry's promise says of its result, of the area for lines and of the unit; and what the answers of the functions below it stand for.
 use Rattle.std.specs.Prelude.{ℕ, ◌+◌, ◌≤◌, ◌≡◌, Bool, cond, List, ◌++◌, length, take, drop, ltb}
-use Rattle.responder.specs.declared.Sent.{Sent}
-use Rattle.responder.specs.declared.Sent.TheVariants as s
+use Rattle.responder.specs.Entry.{Sent}
+use Rattle.std.specs.Prelude.{Some, None}
 use Rattle.store.specs.Model.{State, Shows}
 use Rattle.records.specs.Record.{Front, nothing, wrong, cut, whole}
 use Rattle.records.specs.Turn.{Turned, more, answered, ended, turn}
@@ -78,5 +78,5 @@ LookPlace s (l.Whole port len) = (5 + len ≤ length s) × (len ≤ 2048)
 
 -- how many octets an answer has
 abbrev pub length_of : Sent → ℕ
-length_of (s.Answer n) = n
-length_of s.NoRoom = 0
+length_of (Some n) = n
+length_of None = 0

@@ -34,7 +34,7 @@ use Rattle.store.specs.declared.Held.TheVariants as h
 use Rattle.responder.specs.Respond.{named, given, all_reads, bulk_read_done}
 use Rattle.responder.specs.Entry.{sent_of, Sends, picked, Picked, Chooses}
 use Rattle.responder.specs.declared.Chosen.{Chosen}
-use Rattle.responder.specs.declared.Sent.{Sent}
+use Rattle.responder.specs.Entry.{Sent}
 use Rattle.responder.proofs.Grown.{picked_more, inside-more}
 use Rattle.responder.proofs.Sends.{sends, described-so}
 use Rattle.responder.proofs.Writable.{writable-short, Low, bulk-read-fine}

@@ -24,8 +24,8 @@ use Rattle.store.specs.Model.{State, Shows, Sound}
 use Rattle.responder.specs.Entry.{word_of, count_of, Sends, Serves, Responded}
 use Rattle.responder.specs.Respond.{denial, deny, entries_of, act, served, number, none, first_lines, handled, respond}
 use Rattle.responder.specs.declared.Reply.{Reply}
-use Rattle.responder.specs.declared.Sent.{Sent}
-use Rattle.responder.specs.declared.Sent.TheVariants as t
+use Rattle.responder.specs.Entry.{Sent}
+use Rattle.std.specs.Prelude.{Some, None}
 use Rattle.responder.proofs.Lists.{keys-whole, helds-whole}
 
 -- the form is told by the operation type
@@ -76,7 +76,7 @@ module _ (u : State) (h : Head) (e : h.limits.list ≡ u.limits.list) (p : Port)
 
 module _ (u : State) (h : Head) (e : h.limits.message ≡ u.limits.message) (p : Port) (s old : List ℕ) (y : Reply) (new table pool : List ℕ) where
   -- an area that is too short: no answer, and all as it was
-  pub silent-so : length old < h.limits.message → y.sent ≡ t.NoRoom → new ≡ old → Shows u y.head table pool
+  pub silent-so : length old < h.limits.message → y.sent ≡ None → new ≡ old → Shows u y.head table pool
       → Responded (respond u p s (length old)) y old new table pool
   unfolding respond
   silent-so l q n d = rw (lt-ltb (length old) u.limits.message (omega arith)) (record { says = ap word_of q; area = n; left = d })

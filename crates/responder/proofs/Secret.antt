@@ -27,8 +27,8 @@ use Rattle.store.specs.Steps as steps
 use Rattle.responder.specs.Entry.{word_of, word_for, area_for}
 use Rattle.responder.specs.Respond.{Done, named, deny, stepped, judged, shown, allocate_done, free_done, write_done, read_done, told_of, all_told, resources_done, given, all_reads, bulk_read_done, Writes, one_write, all_writes, bulk_write_done, act, entries_of, served, Line, number, none, lined, first_lines, handled, Result, Out, respond}
 use Rattle.responder.specs.Demands.{Command, results, final, Protected, Twins, carried_of, carried, Spares, SparesAll, SparesTold, Clean, Secret, StillSecret, Sending, commands_of, Did, Ran, SecretRuns, AllPlain, PlainTold, NoPlainWrite, NoPlainRead}
-use Rattle.responder.specs.declared.Sent.{Sent}
-use Rattle.responder.specs.declared.Sent.TheVariants as sent
+use Rattle.responder.specs.Entry.{Sent}
+use Rattle.std.specs.Prelude.{Some, None}
 use Rattle.responder.proofs.Alike.{swap, swap_step, Holds}
 use Rattle.responder.proofs.Alike
 
@@ -204,10 +204,10 @@ still-secret x s t a b u v cs o c w n =
 
 -- one word is told in one way
 pub word-is : (r r' : Sent) → word_of r ≡ word_of r' → r ≡ r'
-word-is (sent.Answer n) (sent.Answer m) e = let z : n ≡ m = cc in ap sent.Answer z
-word-is (sent.Answer n) sent.NoRoom e = let z : ◌≡◌ {A = ℕ} 0 1 = cc in absurd (omega arith)
-word-is sent.NoRoom (sent.Answer n) e = let z : ◌≡◌ {A = ℕ} 0 1 = cc in absurd (omega arith)
-word-is sent.NoRoom sent.NoRoom e = refl
+word-is (Some n) (Some m) e = let z : n ≡ m = cc in ap Some z
+word-is (Some n) None e = let z : ◌≡◌ {A = ℕ} 0 1 = cc in absurd (omega arith)
+word-is None (Some n) e = let z : ◌≡◌ {A = ℕ} 0 1 = cc in absurd (omega arith)
+word-is None None e = refl
 
 -- what comes of one sending is fixed by the result
 did-same : (u v : State) (c : Sending) (o o' : Sent × List ℕ)

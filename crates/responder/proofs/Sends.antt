@@ -11,8 +11,8 @@ use Rattle.octets.specs.declared.Written.{Written}
 use Rattle.octets.specs.declared.Written.TheVariants.{Done, Refused, NoRoom}
 use Rattle.answers.specs.Answer.{Answer, answer_octets, answer_writable, answer_sent, accepted, answer}
 use Rattle.responder.specs.Entry.{sent_of, Sends, Serves}
-use Rattle.responder.specs.declared.Sent.{Sent}
-use Rattle.responder.specs.declared.Sent.TheVariants as s
+use Rattle.responder.specs.Entry.{Sent}
+use Rattle.std.specs.Prelude.{Some, None}
 use Rattle.answers.specs.Denial.{denial_sent}
 use Rattle.store.specs.Answers.{Did}
 use Rattle.store.specs.Model.{State, Shows, Sound}
@@ -25,7 +25,7 @@ use Rattle.responder.specs.Respond.{supplement_of, denial, stepped}
 use Rattle.responder.proofs.Writable.{denial-writable, writable-short}
 
 -- what is told of a message that was written
-sent-done : (w : Written) (n : ℕ) → outcome w ≡ done n → sent_of w ≡ s.Answer n
+sent-done : (w : Written) (n : ℕ) → outcome w ≡ done n → sent_of w ≡ Some n
 sent-done (Done m) n e = let q : m ≡ n = cc in rw q
 sent-done Refused n e = let z : ◌≡◌ {A = ℕ} 0 1 = cc in absurd (omega arith)
 sent-done NoRoom n e = let z : ◌≡◌ {A = ℕ} 0 1 = cc in absurd (omega arith)

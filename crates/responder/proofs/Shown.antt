@@ -23,7 +23,7 @@ use Rattle.store.specs.declared.Held.{Held}
 use Rattle.store.specs.declared.Held.TheVariants as h
 use Rattle.responder.specs.Entry.{sent_of, Sends}
 use Rattle.responder.specs.Respond.{named, denial, shown, read_done}
-use Rattle.responder.specs.declared.Sent.{Sent}
+use Rattle.responder.specs.Entry.{Sent}
 use Rattle.responder.proofs.Sends.{sends}
 use Rattle.responder.proofs.Writable.{read-writable, writable-short}
 

@@ -26,7 +26,7 @@ use Rattle.store.specs.declared.Found.{Found}
 use Rattle.store.specs.declared.Found.TheVariants as n
 use Rattle.responder.specs.Respond.{capped, room_of, size_told, told_of, all_told, resources_done}
 use Rattle.responder.specs.Entry.{sent_of, Sends, found_told, Tells}
-use Rattle.responder.specs.declared.Sent.{Sent}
+use Rattle.responder.specs.Entry.{Sent}
 use Rattle.responder.proofs.Grown.{resources-more}
 use Rattle.responder.proofs.Sends.{sends, described-so}
 use Rattle.responder.proofs.Writable.{writable-short, Low, resources-fine}

@@ -19,7 +19,7 @@ use Rattle.store.specs.Model.{State, Shows, Sound}
 use Rattle.store.specs.Steps.{write_step}
 use Rattle.responder.specs.Respond.{noted, all_writes, bulk_write_done}
 use Rattle.responder.specs.Entry.{sent_of, Serves}
-use Rattle.responder.specs.declared.Sent.{Sent}
+use Rattle.responder.specs.Entry.{Sent}
 use Rattle.responder.proofs.Sends.{sends}
 use Rattle.responder.proofs.Writable.{writable-short}
 

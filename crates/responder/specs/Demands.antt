@@ -20,7 +20,7 @@ use Rattle.store.specs.Steps.{registered}
 use Rattle.responder.specs.Respond.{Result, silent, replied, respond}
 use Rattle.responder.specs.Entry.{area_for, Responded}
 use Rattle.responder.specs.declared.Reply.{Reply}
-use Rattle.responder.specs.declared.Sent.{Sent}
+use Rattle.responder.specs.Entry.{Sent}
 
 -- ==== Demand 1
 

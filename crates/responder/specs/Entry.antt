@@ -1,9 +1,8 @@
 -- What the entry's promise says of its result, of the answer area and of head, table and memory.
-use Rattle.std.specs.Prelude.{ℕ, ◌+◌, ◌≤◌, ◌≡◌, true, List, [], ◌∷◌, ◌++◌, length, take, drop}
+use Rattle.std.specs.Prelude.{ℕ, ◌+◌, ◌≤◌, ◌≡◌, true, List, [], ◌∷◌, ◌++◌, length, take, drop, Option, Some, None, Result, Ok, Err}
 use Rattle.octets.specs.Layout.{put_all, every}
 use Rattle.octets.specs.declared.Form.TheVariants.{Plain}
-use Rattle.octets.specs.declared.Written.{Written}
-use Rattle.octets.specs.declared.Written.TheVariants as w
+use Rattle.octets.specs.Area.{Written}
 use Rattle.tags.specs.Entry.{Held, memory}
 use Rattle.lists.specs.Handed.{held_of, inside_at}
 use Rattle.resources.specs.Resource.{resources_of}
@@ -12,28 +11,29 @@ use Rattle.admission.specs.declared.Limits.{Limits}
 use Rattle.answers.specs.Answer.{Answer, answer_octets}
 use Rattle.store.specs.Answers.{held_in, HeldPlace}
 use Rattle.store.specs.Model.{Shows}
+use Rattle.octets.specs.declared.Span.{Span}
 use Rattle.store.specs.declared.Found.{Found}
-use Rattle.store.specs.declared.Found.TheVariants as n
-use Rattle.store.specs.declared.Held.{Held as Data}
+use Rattle.admission.specs.declared.Denial.{Denial}
+use Rattle.admission.specs.Denial as d
 use Rattle.requests.specs.declared.Operation.{Operation}
 use Rattle.requests.specs.declared.Operation.TheVariants as o
 use Rattle.responder.specs.Respond.{Done, resource_as, given, Line, number, none, Result, silent, replied, Out}
 use Rattle.responder.specs.declared.Chosen.{Chosen}
-use Rattle.responder.specs.declared.Line.{Line as Lines}
-use Rattle.responder.specs.declared.Line.TheVariants as c
 use Rattle.responder.specs.declared.Reply.{Reply}
-use Rattle.responder.specs.declared.Sent.{Sent}
-use Rattle.responder.specs.declared.Sent.TheVariants as s
 
 -- what the caller is told: document 01's number, or the length of the answer
 pub data Word : Type 0 where
   length-is : ℕ → Word
   refusal : ℕ → Word
 
--- what the entry's answer says: without an answer the number is 300
+-- what the entry's caller is told: the length of the answer; where the area is too short there is none
+abbrev pub Sent : Type 0
+Sent = Option ℕ
+
+-- what that says: without an answer the number is 300
 abbrev pub word_of : Sent → Word
-word_of (s.Answer n) = length-is n
-word_of s.NoRoom = refusal 300
+word_of (Some n) = length-is n
+word_of None = refusal 300
 
 -- what a result says
 abbrev pub word_for : Result → Word
@@ -51,14 +51,13 @@ area_for r old = spoken r ++ drop (length (spoken r)) old
 
 -- what is told of a written message; an area of 2,048 octets has room for every reply, so that the other two cases do not come up
 abbrev pub sent_of : Written → Sent
-sent_of (w.Done n) = s.Answer n
-sent_of w.Refused = s.NoRoom
-sent_of w.NoRoom = s.NoRoom
+sent_of (Ok n) = Some n
+sent_of (Err e) = None
 
 -- the line of the table that the answer of first_lines is
-abbrev pub line_of : Lines → Line
-line_of (c.Denied n) = number n
-line_of c.Passed = none
+abbrev pub line_of : Result (Unit {0}) Denial → Line
+line_of (Err e) = number (d.number e)
+line_of (Ok u) = none
 
 -- how many entries an operation's list has
 abbrev pub count_of : Operation → ℕ
@@ -72,7 +71,7 @@ count_of (o.BulkWrite w list) = list.count
 
 -- an answer was written into the area
 pub record Sends (a : Answer) (r : Sent) (old new : List ℕ) : Type 0 where
-  pub says : r ≡ s.Answer (length (answer_octets a))
+  pub says : r ≡ Some (length (answer_octets a))
   pub area : new ≡ area_for (replied a) old
 
 -- an answer was written, and head, table and memory stand for the unit afterwards
@@ -89,12 +88,12 @@ pub record Responded (o : Out) (r : Reply) (old new table pool : List ℕ) : Typ
 -- ---- lists as they grow in slices side by side
 
 -- what is told of a tag that was found, behind what was told before
-abbrev pub found_told : Found → List Resource → List Resource
-found_told n.Nothing rs = rs
-found_told (n.Tag about held) rs = rs ++ resource_as about held ∷ []
+abbrev pub found_told : Option Found → List Resource → List Resource
+found_told None rs = rs
+found_told (Some f) rs = rs ++ resource_as f.about f.held ∷ []
 
 -- the first k entries, and behind them what is told of a tag
-pub record Tells (found : Found) (k : ℕ) (tags modes held sizes : List ℕ) (r : ℕ) (tags' modes' held' sizes' : List ℕ) : Type 0 where
+pub record Tells (found : Option Found) (k : ℕ) (tags modes held sizes : List ℕ) (r : ℕ) (tags' modes' held' sizes' : List ℕ) : Type 0 where
   pub few : r ≤ k + 1
   pub told :
       resources_of (take r tags') (take r modes') (take r held') (take r sizes')
@@ -110,7 +109,7 @@ pub record Picked (c : Chosen) (tags starts lengths pool : List ℕ) : Type 0 wh
   pub size : length (put_all (memory Plain) (picked c.count tags starts lengths pool)) ≡ c.size
 
 -- an entry more, if its data is given and there is room for it
-pub record Chooses (held : Data) (tag : ℕ) (c : Chosen) (tags starts lengths : List ℕ) (r : Chosen) (tags' starts' lengths' : List ℕ) : Type 0 where
+pub record Chooses (held : Result Span Denial) (tag : ℕ) (c : Chosen) (tags starts lengths : List ℕ) (r : Chosen) (tags' starts' lengths' : List ℕ) : Type 0 where
   pub few : r.count ≤ c.count + 1
   pub small : r.size ≤ 2041
   pub grown : (pool : List ℕ) (l : Limits) → HeldPlace pool l held → Picked c tags starts lengths pool
