@@ -250,6 +250,7 @@ pub fn read_data(s: &[u8], at: usize) -> Reading<Span>
 }
 
 // How many octets a length takes.
+#[tactic(auto, unfolding(crate::specs::Length::encode_length))]
 pub fn length_size(n: usize) -> usize
     ensures { (result ≡ length (encode_length n)) × (result ≤ 2) }
 {
