@@ -250,6 +250,7 @@ pub fn read_data(s: &[u8], at: usize) -> Reading<Span>
 }
 
 // How many octets a length takes.
+#[tactic(auto, unfolding(crate::specs::Length::encode_length))]
 pub fn length_size(n: usize) -> usize
     ensures { (result ≡ length (encode_length n)) × (result ≤ 2) }
 {
@@ -343,10 +344,7 @@ pub fn open_message(out: &mut [u8], version: u8, kind: u8, body: usize) -> Writt
     if out.len() < start + body {
         return Err(Unwritten::NoRoom);
     }
-    out[0] = version << 4;
-    out[1] = 1;
-    out[2] = kind;
-    out[3] = 0;
+    copy(out, 0, &[version << 4, 1, kind, 0]);
     write_length(out, 4, body);
     Ok(start)
 }
@@ -361,18 +359,15 @@ pub struct Heading {
 pub fn read_heading(s: &[u8]) -> Result<Heading, Fault>
     ensures { HeadingOf s.now result }
 {
-    if s.len() < 3 {
+    let [first, 1, kind, ..] = *s else {
         return Err(Fault::Other);
-    }
-    if fill_of(s[0]) != 0 {
-        return Err(Fault::Other);
-    }
-    if s[1] != 1 {
+    };
+    if fill_of(first) != 0 {
         return Err(Fault::Other);
     }
     Ok(Heading {
-        version: version_of(s[0]),
-        kind: s[2],
+        version: version_of(first),
+        kind,
     })
 }
 
@@ -380,12 +375,9 @@ pub fn read_heading(s: &[u8]) -> Result<Heading, Fault>
 pub fn read_enclosed(s: &[u8]) -> Result<usize, Fault>
     ensures { EnclosedOf s.now result }
 {
-    if s.len() < 4 {
+    let [_, _, _, 0, ..] = *s else {
         return Err(Fault::Other);
-    }
-    if s[3] != 0 {
-        return Err(Fault::Other);
-    }
+    };
     let Taken { value: n, next } = read_length(s, 4)?;
     if left_at(s, next) != n {
         return Err(Fault::Other);
