@@ -95,17 +95,11 @@ pub fn write_keys(
 fn sum_memories(memories: Memories) -> Option<usize>
     ensures { MeasuredIn memories.entry result }
 {
-    let src = memories.src;
     let mut size = 0;
     for i in 0..memories.keys.tags.len() {
-        let start = memories.starts[i];
-        let n = memories.lengths[i];
-        if src.len() < start {
-            return None;
-        }
-        if src.len() - start < n {
-            return None;
-        }
+        let rest = memories.src.get(memories.starts[i]..)?;
+        let piece = rest.get(..memories.lengths[i])?;
+        let n = piece.len();
         if 2048 < n {
             return None;
         }

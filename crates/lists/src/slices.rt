@@ -7,16 +7,20 @@ use octets::{Access, Form, Unwritten};
 
 // Tags, each with its password where the form has passwords.
 #[derive(Clone, Copy)]
-pub struct Keys<'a> {
-    pub form: Form,
-    pub tags: &'a [u64],
-    pub passwords: &'a [u64],
+pub(crate) struct Keys<'a> {
+    pub(crate) form: Form,
+    pub(crate) tags: &'a [u64],
+    pub(crate) passwords: &'a [u64],
     ghost agree: { agrees form (length tags.now) (length passwords.now) ≡ true },
 }
 
 impl<'a> Keys<'a> {
     // Passwords are handed over for every tag or for none, as the form wants them.
-    pub fn new(form: Form, tags: &'a [u64], passwords: &'a [u64]) -> Result<Keys<'a>, Unwritten>
+    pub(crate) fn new(
+        form: Form,
+        tags: &'a [u64],
+        passwords: &'a [u64],
+    ) -> Result<Keys<'a>, Unwritten>
         ensures { MatchResult result (λ k. (k.form ≡ form) × (k.tags ≡ tags.entry) × (k.passwords ≡ passwords.entry)) (λ e. (e ≡ Unwritten.Refused) × (agrees form (length tags.now) (length passwords.now) ≡ false)) }
     {
         let wanted = match form {
@@ -47,18 +51,18 @@ impl<'a> Keys<'a> {
 
 // Memory data: with each tag the part of common octets that starts at its start and has its length.
 #[derive(Clone, Copy)]
-pub struct Memories<'a> {
-    pub keys: Keys<'a>,
-    pub starts: &'a [usize],
-    pub lengths: &'a [usize],
-    pub src: &'a [u8],
+pub(crate) struct Memories<'a> {
+    pub(crate) keys: Keys<'a>,
+    pub(crate) starts: &'a [usize],
+    pub(crate) lengths: &'a [usize],
+    pub(crate) src: &'a [u8],
     ghost starts_agree: { length starts.now ≡ length keys.tags.now },
     ghost lengths_agree: { length lengths.now ≡ length keys.tags.now },
 }
 
 impl<'a> Memories<'a> {
     // There are a start and a length for every tag.
-    pub fn new(
+    pub(crate) fn new(
         keys: Keys<'a>,
         starts: &'a [usize],
         lengths: &'a [usize],
