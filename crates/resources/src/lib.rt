@@ -23,7 +23,7 @@ use octets::{Access, Entries, Fault, Form, Reading, Span, Taken, Unwritten, Widt
 pub fn is_mode(code: u8) -> bool
     ensures { result ≡ mode_known code }
 {
-    matches!(code, 0..=2 | 4..=6)
+    code < 7 && code != 3
 }
 
 // The mode code at a place.
