@@ -13,8 +13,7 @@ unfolding overwritten
 returns c =
     let xs = c.args.src.now in
     let n = c.args.slot.at + length xs in
-    let k : c.args.slot.at + c.args.slot.held - n ≡ c.args.slot.held - length xs = omega arith in
-    (
+    let k : c.args.slot.at + c.args.slot.held - n ≡ c.args.slot.held - length xs = omega arith in (
       c.put_held.ensures,
       c.clear.ensures
           ∙ ap (λ (d : List ℕ). sets d n (replicate (c.args.slot.at + c.args.slot.held - n) 0)) (laid-holds c.args.pool.now c.args.slot.at xs c.requires.0 c.copy.ensures)
