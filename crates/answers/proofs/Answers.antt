@@ -13,7 +13,7 @@ use Rattle.octets.proofs.Lawful.{Lawful, list_lawful, allowed-lawful, wrap-there
 use Rattle.tags.specs.Entry.{key, memory}
 use Rattle.tags.proofs.Entries.{key-lawful, memory-lawful}
 use Rattle.resources.specs.Resource.{resources}
-use Rattle.resources.proofs.Resources.{resources-lawful}
+use Rattle.resources.proofs.Bodies.{resources-lawful}
 use Rattle.requests.specs.Command.{Command, command_number, command_at, known}
 use Rattle.requests.specs.Command as c
 use Rattle.requests.proofs.Requests.{same-command}

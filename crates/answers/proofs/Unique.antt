@@ -14,7 +14,7 @@ use Rattle.octets.proofs.Spans.{span_at, list_at, span-is, list-is}
 use Rattle.tags.specs.Entry.{key, memory}
 use Rattle.tags.proofs.Entries.{key-lawful, memory-lawful}
 use Rattle.resources.specs.Resource.{resource}
-use Rattle.resources.proofs.Resources.{resource-lawful}
+use Rattle.resources.proofs.Bodies.{resource-lawful}
 use Rattle.requests.specs.Command.{form_number}
 use Rattle.answers.specs.Answer.{Body, Answer, accepted, denied}
 use Rattle.answers.specs.Answer as b

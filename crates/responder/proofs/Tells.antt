@@ -14,7 +14,7 @@ use Rattle.tags.specs.Entry.{Keyed}
 use Rattle.resources.specs.Resource.{resources_of, alongside}
 use Rattle.resources.specs.declared.Resource.{Resource}
 use Rattle.resources.specs.declared.Room.{Room}
-use Rattle.resources.proofs.Resources.{are-alongside}
+use Rattle.resources.proofs.Bodies.{are-alongside}
 use Rattle.answers.specs.Answer.{answer_writable, resource_information_sent}
 use Rattle.admission.specs.Mode.{mode_code}
 use Rattle.admission.specs.declared.Attributes.{Attributes}
