@@ -1,4 +1,5 @@
 // Lists as a caller hands them over: slices side by side, found to belong together.
+// They are no slices of structs: the C interface hands each over as an array of its own.
 
 ghost use Rattle.std.specs.Prelude.{◌≡◌, true, false, ◌<◌, length, MatchResult};
 ghost use Rattle.lists.specs.Handed.{agrees, access_at, belong};
