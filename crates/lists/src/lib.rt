@@ -112,7 +112,8 @@ fn sum_memories(memories: Memories) -> Option<usize>
 }
 
 fn put_memories(out: &mut [u8], at: usize, memories: Memories) -> usize
-    requires { (fit_all (memory memories.keys.form) (memories_in memories) ≡ true) × (at + length (put_all (memory memories.keys.form) (memories_in memories)) ≤ length out.old) }
+    requires { (fit_all (memory memories.keys.form) (memories_in memories) ≡ true)
+        × (at + length (put_all (memory memories.keys.form) (memories_in memories)) ≤ length out.old) }
     ensures { Wrote out.old at (put_all (memory memories.entry.keys.form) (memories_in memories.entry)) out.new result }
 {
     let keys = memories.keys;
