@@ -43,10 +43,13 @@ row c.bulk_write f.Plain t = refl
 row c.bulk_write f.Password t = refl
 
 -- so a body that is written in the frame of its type is the answer written
-pub sent-is : (b : Body) (w : Form) → Listed (command_of b) w → {A : Type 0} (L : Layout A) (a : A) → L.put a ≡ body_put b → L.fits a ≡ body_fits b
-    → {kind : ℕ} → kind ≡ answer_kind (command_of b) w → (version : ℕ) (old : List ℕ) → sent L version kind a old ≡ answer_sent (accepted (answer version w b)) old
+pub sent-is : (b : Body) (w : Form) → Listed (command_of b) w → {A : Type 0} (L : Layout A) (a : A)
+    → L.put a ≡ body_put b → L.fits a ≡ body_fits b
+    → {kind : ℕ} → kind ≡ answer_kind (command_of b) w → (version : ℕ) (old : List ℕ)
+    → sent L version kind a old ≡ answer_sent (accepted (answer version w b)) old
 unfolding sent encode writable
-sent-is b w t L a p f k version old = rw (k, row (command_of b) w t, p, f, eq-eqb (command_number (command_of b)) (command_number (command_of b)) refl)
+sent-is b w t L a p f k version old =
+    rw (k, row (command_of b) w t, p, f, eq-eqb (command_number (command_of b)) (command_number (command_of b)) refl)
 
 -- ---- bodies read back
 

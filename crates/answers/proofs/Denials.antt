@@ -2,7 +2,7 @@
 use Prim.Native.Nat.{ℕ, ◌+◌, ◌*◌, ◌/◌, ◌%◌, ◌<◌, ◌≤◌}
 use mathlib.Core.Path.{◌≡◌, refl, sym, ◌∙◌}
 use mathlib.Core.Bool.{Bool, true, false, ◌&&◌}
-use mathlib.Core.List.{List, [], ◌∷◌, ◌++◌}
+use mathlib.Core.List.{List, [], ◌∷◌}
 use native.Mathlib.Omega.{arith}
 use lib.ListN.{length, get_or, drop, length-append}
 use lib.Dec.{ltb, leb, eqb}
@@ -18,6 +18,7 @@ use Rattle.octets.specs.declared.Fault.{Fault}
 use Rattle.octets.specs.declared.Fault.TheVariants.{Other}
 use Rattle.octets.specs.declared.Span.{Span}
 use Rattle.octets.proofs.Places.{here, both, false-true, end_more}
+use Rattle.octets.proofs.Lengths.{encode-short}
 use Rattle.octets.proofs.Numbers.{length-octets}
 use Rattle.octets.proofs.Spans.{span-length}
 use Rattle.octets.proofs.Lawful.{Lawful, numeral-lawful, data-lawful, seq-lawful, via-lawful, only-lawful}
@@ -68,12 +69,13 @@ pub length-denial : (d : Denial) → length (denial.put d) ≡ 3 + length (encod
 length-denial d = simp (length-append, length-octets) (omega arith)
 
 -- those of a denial that may be written, one behind the other
-pub denial-parts : (d : Denial) → d.version ≤ 15 → d.status < 256 → denial.put d ≡ (d.version * 16) ∷ 255 ∷ d.status ∷ encode_length (length d.supplement) ++ d.supplement
+pub denial-parts : (d : Denial) → d.version ≤ 15 → d.status < 256 → length d.supplement ≤ 127
+    → denial.put d ≡ (d.version * 16) ∷ 255 ∷ d.status ∷ length d.supplement ∷ d.supplement
 unfolding octets
-denial-parts d v s =
+denial-parts d v s n =
     let a : d.version * 16 / 1 % 256 ≡ d.version * 16 = omega arith in
     let b : d.status / 1 % 256 ≡ d.status = omega arith in
-    rw (a, b)
+    rw (a, b, encode-short (length d.supplement) (omega arith))
 
 -- ---- a denial, read part by part
 
@@ -110,19 +112,32 @@ module _ (l : List ℕ) (x : ℕ) (t : List ℕ) (e : ok x t ≡ decode_number 1
 
 module _ (v y : ℕ) {s : List ℕ} (at : ℕ) {t : Taken Span} (e : DataAt s at (Ok t)) where
   -- data of at most 127 octets is the supplement
-  pub past-supplement : t.value.len ≤ 127 → from_supplement v y (drop at s) ≡ ok (record { version = v; status = y; supplement = within s t.value }) (drop t.next s)
-  past-supplement h = rw (← e.says, lt-ltb (length (within s t.value)) 128 (omega (arith, span-length s t.value (omega (arith, e.place)))))
+  pub past-supplement : t.value.len ≤ 127
+      → from_supplement v y (drop at s) ≡ ok (record { version = v; status = y; supplement = within s t.value }) (drop t.next s)
+  past-supplement h =
+      rw (
+        ← e.says,
+        lt-ltb (length (within s t.value)) 128
+            (omega (arith, span-length s t.value (omega (arith, e.place)))),
+      )
 
   -- longer data is not
   pub supplement-bad : 127 < t.value.len → from_supplement v y (drop at s) ≡ bad Other
-  supplement-bad h = rw (← e.says, le-ltb (length (within s t.value)) 128 (omega (arith, span-length s t.value (omega (arith, e.place)))))
+  supplement-bad h =
+      rw (
+        ← e.says,
+        le-ltb (length (within s t.value)) 128
+            (omega (arith, span-length s t.value (omega (arith, e.place)))),
+      )
 
   -- nor is data with octets behind it
   pub supplement-behind : t.next < length s → at_end (from_supplement v y (drop at s)) ≡ bad Other
   supplement-behind h = go (leb t.value.len 127) refl
     where
       go : (b : Bool) → leb t.value.len 127 ≡ b → at_end (from_supplement v y (drop at s)) ≡ bad Other
-      go true q = rw (past-supplement (leb-true _ _ q)) (end_more s (record { version = v; status = y; supplement = within s t.value }) t.next h)
+      go true q =
+          rw (past-supplement (leb-true _ _ q))
+          (end_more s (record { version = v; status = y; supplement = within s t.value }) t.next h)
       go false q = rw (supplement-bad (leb-false _ _ q))
 
 -- an octet that stands at a place
@@ -138,7 +153,8 @@ pub denial-fill : (s : List ℕ) → 0 < length s → (get_or s 0 0 % 16 ≡ 0 �
 denial-fill s h z = fill-bad s (get_or s 0 0) (drop 1 s) (octet-there s 0 h) z
 
 -- behind one whose fill bits are zero, and behind 255 and the status, stands the supplement
-pub denial-on : (s : List ℕ) → 3 ≤ length s → get_or s 0 0 % 16 ≡ 0 → is_denial s ≡ true → denial.get s ≡ from_supplement (get_or s 0 0 / 16) (get_or s 2 0) (drop 3 s)
+pub denial-on : (s : List ℕ) → 3 ≤ length s → get_or s 0 0 % 16 ≡ 0 → is_denial s ≡ true
+    → denial.get s ≡ from_supplement (get_or s 0 0 / 16) (get_or s 2 0) (drop 3 s)
 denial-on s h z m =
     past-version s (get_or s 0 0) (drop 1 s) (octet-there s 0 (omega arith)) z
     ∙ past-mark (drop 1 s) (get_or s 1 0) (drop 2 s) (octet-there s 1 (omega arith)) _ (eqb-true _ _ m)
@@ -159,7 +175,9 @@ denial-cut (v ∷ x ∷ []) h m = go (eqb (v % 16) 0) refl
     go true t =
         past-version (v ∷ x ∷ []) v (x ∷ []) (octet-there (v ∷ x ∷ []) 0 (omega arith)) (eqb-true _ _ t)
         ∙ past-mark (x ∷ []) x [] (octet-there (v ∷ x ∷ []) 1 (omega arith)) _ (eqb-true _ _ m)
-    go false t = fill-bad (v ∷ x ∷ []) v (x ∷ []) (octet-there (v ∷ x ∷ []) 0 (omega arith)) (λ q. false-true (sym t ∙ eq-eqb (v % 16) 0 q))
+    go false t =
+        fill-bad (v ∷ x ∷ []) v (x ∷ []) (octet-there (v ∷ x ∷ []) 0 (omega arith))
+        (λ q. false-true (sym t ∙ eq-eqb (v % 16) 0 q))
 denial-cut (v ∷ x ∷ y ∷ l) h m = absurd (omega arith)
 
 -- ---- which denials may be written

@@ -33,28 +33,35 @@ use Rattle.answers.proofs.Answers.{row, answer-lawful}
 -- ---- the body of one operation's answer
 
 -- a body that does not read
-pub decoded-bad : {x : Command} {w : Form} {s : List ℕ} {at : ℕ} {r : Result Given Fault} {f : Fault} → IsErrAnd r (λ g. g ≡ f)
+pub decoded-bad : {x : Command} {w : Form} {s : List ℕ} {at : ℕ} {r : Result Given Fault} {f : Fault}
+    → IsErrAnd r (λ g. g ≡ f)
     → bad f ≡ at_end ((body_of x).get (drop at s)) → DecodedAs x w s at r
 decoded-bad h e = rw (handed h) (record { says = e; place = tt })
 
 -- a tag that is all of the answer to x
-module _ (x : Command) {w : Form} {s : List ℕ} {at : ℕ} (g : Keyed → Body) (of : (l : List ℕ) → (body_of x).get l ≡ and_then ((key f.Plain).get l) (λ k r. ok (g k) r)) where
-  pub tag-bad : {r : Result Given Fault} {h : Fault} → IsErrAnd r (λ g. g ≡ h) → bad h ≡ at_end ((key f.Plain).get (drop at s)) → DecodedAs x w s at r
+module _ (x : Command) {w : Form} {s : List ℕ} {at : ℕ} (g : Keyed → Body)
+    (of : (l : List ℕ) → (body_of x).get l ≡ and_then ((key f.Plain).get l) (λ k r. ok (g k) r)) where
+  pub tag-bad : {r : Result Given Fault} {h : Fault} → IsErrAnd r (λ g. g ≡ h)
+      → bad h ≡ at_end ((key f.Plain).get (drop at s)) → DecodedAs x w s at r
   tag-bad h e = decoded-bad h (rw of (under-bad g _ e))
 
-  pub tag-good : {tag : ℕ} {y : Given} → ok (plain_tag tag) [] ≡ at_end ((key f.Plain).get (drop at s)) → given_body s y ≡ g (plain_tag tag) → given_kind y ≡ answer_kind x w
+  pub tag-good : {tag : ℕ} {y : Given} → ok (plain_tag tag) [] ≡ at_end ((key f.Plain).get (drop at s))
+      → given_body s y ≡ g (plain_tag tag) → given_kind y ≡ answer_kind x w
       → GivenPlace s y → DecodedAs x w s at (Ok y)
   tag-good e i k p = record { says = rw (of, i) (under-ok g _ e); place = (k, p) }
 
 -- ---- answers' types
 
 -- a body of the table is read as the answer to its operation
-pub decoded-at : {x : Command} {w : Form} {kind : ℕ} {s : List ℕ} {at : ℕ} {r : Result Given Fault} → DecodedAs x w s at r → kind ≡ answer_kind x w → Listed x w → DecodedAt kind s at r
+pub decoded-at : {x : Command} {w : Form} {kind : ℕ} {s : List ℕ} {at : ℕ} {r : Result Given Fault}
+    → DecodedAs x w s at r → kind ≡ answer_kind x w → Listed x w → DecodedAt kind s at r
 decoded-at {x} {w} {kind} {s} {at} e k t = rw k (record { says = rw (row x w t) e.says; place = e.place })
 
 -- the same of a body that one call reads in either form
-pub decoded-either : {x : Command} {w : Form} {kind : ℕ} {s : List ℕ} {at : ℕ} {r : Result Given Fault} → DecodedAs x w s at r → w ≡ form_at (kind - 128)
-    → (kind ≡ answer_kind x f.Plain) ⊎ (kind ≡ answer_kind x f.Password) → Listed x f.Plain → Listed x f.Password → DecodedAt kind s at r
+pub decoded-either : {x : Command} {w : Form} {kind : ℕ} {s : List ℕ} {at : ℕ} {r : Result Given Fault}
+    → DecodedAs x w s at r → w ≡ form_at (kind - 128)
+    → (kind ≡ answer_kind x f.Plain) ⊎ (kind ≡ answer_kind x f.Password) → Listed x f.Plain → Listed x f.Password
+    → DecodedAt kind s at r
 decoded-either {x} {w} {kind} {s} {at} {r} e q p t u = ⊎_elim (go f.Plain t) (go f.Password u) p
   where
     go : (v : Form) → Listed x v → kind ≡ answer_kind x v → DecodedAt kind s at r
@@ -64,12 +71,15 @@ decoded-either {x} {w} {kind} {s} {at} {r} e q p t u = ⊎_elim (go f.Plain t) (
         decoded-at (rw h at e) k t
 
 -- no octets are the body of a type that is in no row of the table
-pub decoded-unknown : {kind : ℕ} {s : List ℕ} {at : ℕ} → (128 ≤ kind → 134 < kind) → (193 ≤ kind → 198 < kind) → DecodedAt kind s at (Err Other)
+pub decoded-unknown : {kind : ℕ} {s : List ℕ} {at : ℕ} → (128 ≤ kind → 134 < kind) → (193 ≤ kind → 198 < kind)
+    → DecodedAt kind s at (Err Other)
 unfolding answer_body
 decoded-unknown {kind} h g = record { says = rw (go (leb 128 kind) refl); place = tt }
   where
     go : (b : Bool) → leb 128 kind ≡ b → (b && known (kind - 128)) ≡ false
-    go true t = let k : 128 ≤ kind = leb-true 128 kind t in unknown (kind - 128) (omega (arith, h k)) (λ e. omega (arith, g (omega arith)))
+    go true t =
+        let k : 128 ≤ kind = leb-true 128 kind t in
+        unknown (kind - 128) (omega (arith, h k)) (λ e. omega (arith, g (omega arith)))
     go false t = refl
 
 -- ---- the whole answer
@@ -80,7 +90,8 @@ unfolding answer_read
 answer-long {s} h = record { says = rw (lt-ltb _ _ h); place = tt }
 
 -- with another second octet they are a message in its frame or nothing
-accepted-is : (s : List ℕ) → length s ≤ 2048 → is_denial s ≡ false → answer_read s ≡ and_then (decode answer_body s) (λ m r. ok (accepted m) r)
+accepted-is : (s : List ℕ) → length s ≤ 2048 → is_denial s ≡ false
+    → answer_read s ≡ and_then (decode answer_body s) (λ m r. ok (accepted m) r)
 unfolding answer_read
 accepted-is s h e = rw (le-ltb _ _ h, e)
 
@@ -94,24 +105,28 @@ module _ {s : List ℕ} (h : length s ≤ 2048) where
   module _ (e : is_denial s ≡ false) where
     -- octets without a heading
     pub answer-headless : {g : Fault} → HeadingOf s (Err g) → Understood s (Err g)
-    answer-headless {g} i = record { says = rw (accepted-is s h e, decode-headless answer_body answer-lawful s _ i.says) (fault-told g); place = tt }
+    answer-headless {g} i = record {
+      says = rw (accepted-is s h e, decode-headless answer_body answer-lawful s _ i.says) (fault-told g);
+      place = tt;
+    }
 
     module _ {k : Heading} (i : HeadingOf s (Ok k)) where
       -- a heading and no body behind it
       pub answer-unenclosed : {g : Fault} → EnclosedOf s (Err g) → Understood s (Err g)
-      answer-unenclosed {g} j = record { says = rw (accepted-is s h e, decode-unenclosed answer_body answer-lawful s _ _ _ i.says _ j.says) (fault-told g); place = tt }
+      answer-unenclosed {g} j = record {
+        says = rw (accepted-is s h e, decode-unenclosed answer_body answer-lawful s _ _ _ i.says _ j.says) (fault-told g);
+        place = tt;
+      }
 
       module _ {at : ℕ} (j : EnclosedOf s (Ok at)) where
         -- a body that does not read
         pub answer-bad : {g : Fault} → DecodedAt k.kind s at (Err g) → Understood s (Err g)
-        answer-bad {g} b = record {
-          says = rw (accepted-is s h e, decode-body answer_body answer-lawful s _ _ _ i.says _ j.says, ← b.says) (fault-told g);
-          place = tt;
-        }
+        answer-bad {g} b =
+            let d = decode-body answer_body answer-lawful s _ _ _ i.says _ j.says in
+            record { says = rw (accepted-is s h e, d, ← b.says) (fault-told g); place = tt }
 
         -- a body that reads
         pub answer-good : {y : Given} → DecodedAt k.kind s at (Ok y) → Understood s (Ok (r.Accepted k.version y))
-        answer-good b = record {
-          says = rw (accepted-is s h e, decode-body answer_body answer-lawful s _ _ _ i.says _ j.says, ← b.says, b.place.0);
-          place = (i.place.1, b.place.1);
-        }
+        answer-good b =
+            let d = decode-body answer_body answer-lawful s _ _ _ i.says _ j.says in
+            record { says = rw (accepted-is s h e, d, ← b.says, b.place.0); place = (i.place.1, b.place.1) }

@@ -12,7 +12,8 @@ ghost use Rattle.requests.specs.Command as c;
 ghost use Rattle.requests.specs.View.{whole_in};
 ghost use Rattle.answers.specs.Denial.{denial_sent};
 ghost use Rattle.answers.specs.Answer as b;
-ghost use Rattle.answers.specs.Answer.{is_denial, answer, accepted, answer_sent, resource_information_sent, bulk_read_sent};
+ghost use Rattle.answers.specs.Answer.{is_denial, answer, accepted, answer_sent};
+ghost use Rattle.answers.specs.Answer.{resource_information_sent, bulk_read_sent};
 ghost use Rattle.answers.specs.View.{plain_tag, DecodedAs, DecodedAt, DenialOf, Understood};
 
 use octets::{Access, Entries, Fault, Form, Heading, Span, Unwritten, Written};
@@ -95,7 +96,7 @@ fn form_at(kind: u8) -> Form
 fn is_denial(s: &[u8]) -> bool
     ensures { result ≡ is_denial s.now }
 {
-    1 < s.len() && s[1] == 255
+    matches!(*s, [_, 255, ..])
 }
 
 // The denial that octets are.
@@ -103,10 +104,10 @@ fn read_denial(s: &[u8]) -> Result<Reply, Fault>
     requires { is_denial s.now ≡ true }
     ensures { DenialOf s.now result }
 {
-    if s.len() < 3 {
+    let [first, _, status, ..] = *s else {
         return Err(Fault::Other);
-    }
-    if octets::fill_of(s[0]) != 0 {
+    };
+    if octets::fill_of(first) != 0 {
         return Err(Fault::Other);
     }
     let supplement = octets::read_data(s, 3)?.to_end(s)?;
@@ -114,8 +115,8 @@ fn read_denial(s: &[u8]) -> Result<Reply, Fault>
         return Err(Fault::Other);
     }
     Ok(Reply::Denied {
-        version: octets::version_of(s[0]),
-        status: s[2],
+        version: octets::version_of(first),
+        status,
         supplement,
     })
 }
@@ -134,10 +135,7 @@ pub fn write_denial(out: &mut [u8], version: u8, status: u8, supplement: &[u8]) 
     if out.len() < 4 + n {
         return Err(Unwritten::NoRoom);
     }
-    out[0] = version << 4;
-    out[1] = 255;
-    out[2] = status;
-    let at = octets::write_length(out, 3, n);
+    let at = octets::copy(out, 0, &[version << 4, 255, status, n as u8]);
     Ok(octets::copy(out, at, supplement))
 }
 
@@ -150,7 +148,8 @@ fn read_resources(s: &[u8], at: usize) -> Result<Given, Fault>
     Ok(Given::Resources(told.room, told.list))
 }
 
-// What a unit can take, and for each tag of the list its mode, data size and area size. Where the slices are not of one length, 16.
+// What a unit can take, and for each tag of the list its mode, data size and area size. Where the slices are not of
+// one length, 16. They stand side by side, here and in write_bulk_read: so the C interface hands them over.
 pub fn write_resources(
     out: &mut [u8],
     version: u8,
@@ -220,8 +219,8 @@ fn read_bulk_read(s: &[u8], at: usize, form: Form) -> Result<Given, Fault>
     Ok(Given::BulkRead(form, list))
 }
 
-// The tags that were read, each with its data: that of entry i is the part of `src` that starts at start i and has length i. Where the slices are not of one
-// length, or a part does not lie within `src`, 16.
+// The tags that were read, each with its data: that of entry i is the part of `src` that starts at start i and has
+// length i. Where the slices are not of one length, or a part does not lie within `src`, 16.
 pub fn write_bulk_read(
     out: &mut [u8],
     version: u8,

@@ -54,7 +54,8 @@ module _ {V A : Type 0} {p : Read A} {shown : V → A} {Place : Taken V → Type
   pub whole : {t : Taken V} → Reads p shown Place s (Ok t) → whole_in shown (to_end s t) ≡ at_end p
   whole {t} e = rw (← e.says) (go (ltb t.next (length s)) refl)
     where
-      go : (b : Bool) → ltb t.next (length s) ≡ b → whole_in shown (cond b (Err Other) (Ok t.value)) ≡ at_end (ok (shown t.value) (drop t.next s))
+      go : (b : Bool) → ltb t.next (length s) ≡ b
+          → whole_in shown (cond b (Err Other) (Ok t.value)) ≡ at_end (ok (shown t.value) (drop t.next s))
       go true h = sym (end_more s (shown t.value) t.next (ltb-true _ _ h))
       go false h = sym (end-there s (shown t.value) t.next (ltb-false _ _ h))
 
@@ -63,18 +64,22 @@ module _ {V A : Type 0} {p : Read A} {shown : V → A} {Place : Taken V → Type
   behind {t} e h = let w : whole_in shown (to_end s t) ≡ at_end p = whole e in rw (← h) at w
 
   -- where to_end gives a value it is that one, and the octets end there
-  pub at-end : {t : Taken V} {v : V} → Reads p shown Place s (Ok t) → Ok v ≡ to_end s t → (v ≡ t.value) × (length s ≤ t.next)
+  pub at-end : {t : Taken V} {v : V} → Reads p shown Place s (Ok t) → Ok v ≡ to_end s t
+      → (v ≡ t.value) × (length s ≤ t.next)
   at-end {t} {v} e h = go (ltb t.next (length s)) refl h
     where
-      go : (b : Bool) → ltb t.next (length s) ≡ b → ◌≡◌ {A = Result V Fault} (Ok v) (cond b (Err Other) (Ok t.value)) → (v ≡ t.value) × (length s ≤ t.next)
+      go : (b : Bool) → ltb t.next (length s) ≡ b → ◌≡◌ {A = Result V Fault} (Ok v) (cond b (Err Other) (Ok t.value))
+          → (v ≡ t.value) × (length s ≤ t.next)
       go true q k = let z : ◌≡◌ {A = ℕ} 0 1 = cc in absurd (omega arith)
       go false q k = (cc, ltb-false _ _ q)
 
   -- where it gives a fault they go on
-  pub not-end : {t : Taken V} {f : Fault} → Reads p shown Place s (Ok t) → Err f ≡ to_end s t → (f ≡ Other) × (t.next < length s)
+  pub not-end : {t : Taken V} {f : Fault} → Reads p shown Place s (Ok t) → Err f ≡ to_end s t
+      → (f ≡ Other) × (t.next < length s)
   not-end {t} {f} e h = go (ltb t.next (length s)) refl h
     where
-      go : (b : Bool) → ltb t.next (length s) ≡ b → ◌≡◌ {A = Result V Fault} (Err f) (cond b (Err Other) (Ok t.value)) → (f ≡ Other) × (t.next < length s)
+      go : (b : Bool) → ltb t.next (length s) ≡ b → ◌≡◌ {A = Result V Fault} (Err f) (cond b (Err Other) (Ok t.value))
+          → (f ≡ Other) × (t.next < length s)
       go true q k = (cc, ltb-true _ _ q)
       go false q k = let z : ◌≡◌ {A = ℕ} 0 1 = cc in absurd (omega arith)
 
@@ -98,16 +103,20 @@ handed {T} {r} {f} h = let p = err_from_is_err_and r h in p.1 ∙ ap (λ (g : Fa
 -- ---- the body of one operation
 
 -- a body that does not read
-pub decoded-bad : {x : Command} {w : Form} {s : List ℕ} {at : ℕ} {r : Result Operation Fault} {f : Fault} → IsErrAnd r (λ g. g ≡ f)
+pub decoded-bad : {x : Command} {w : Form} {s : List ℕ} {at : ℕ} {r : Result Operation Fault} {f : Fault}
+    → IsErrAnd r (λ g. g ≡ f)
     → bad f ≡ at_end ((body_of x w).get (drop at s)) → DecodedAs x w s at r
 decoded-bad h e = rw (handed h) (record { says = e; place = tt })
 
 -- a tag that is all of the body of x, under the constructors of an operation and of what it asks
-module _ (x : Command) {w : Form} {s : List ℕ} {at : ℕ} (g : Keyed → Body) (row : (l : List ℕ) → (body_of x w).get l ≡ and_then ((key w).get l) (λ k r. ok (g k) r)) where
-  pub tag-bad : {r : Result Operation Fault} {f : Fault} → IsErrAnd r (λ g. g ≡ f) → bad f ≡ at_end ((key w).get (drop at s)) → DecodedAs x w s at r
+module _ (x : Command) {w : Form} {s : List ℕ} {at : ℕ} (g : Keyed → Body)
+    (row : (l : List ℕ) → (body_of x w).get l ≡ and_then ((key w).get l) (λ k r. ok (g k) r)) where
+  pub tag-bad : {r : Result Operation Fault} {f : Fault} → IsErrAnd r (λ g. g ≡ f)
+      → bad f ≡ at_end ((key w).get (drop at s)) → DecodedAs x w s at r
   tag-bad h e = decoded-bad h (rw row (under-bad g _ e))
 
-  pub tag-good : {k : Keyed} {y : Operation} → ok k [] ≡ at_end ((key w).get (drop at s)) → operation_body s y ≡ g k → operation_kind y ≡ kind_of x (form_of k.1) → OperationPlace s y
+  pub tag-good : {k : Keyed} {y : Operation} → ok k [] ≡ at_end ((key w).get (drop at s)) → operation_body s y ≡ g k
+      → operation_kind y ≡ kind_of x (form_of k.1) → OperationPlace s y
       → DecodedAs x w s at (Ok y)
   tag-good {k} {y} e i j p =
       let n : form_of k.1 ≡ w = key-form w (drop at s) k [] ((end_back ((key w).get (drop at s)) k [] (sym e)).0) in
@@ -116,12 +125,15 @@ module _ (x : Command) {w : Form} {s : List ℕ} {at : ℕ} (g : Keyed → Body)
 -- ---- the table of operation types
 
 -- a body of the table is read as the body of its operation
-pub decoded-at : {x : Command} {w : Form} {kind : ℕ} {s : List ℕ} {at : ℕ} {r : Result Operation Fault} → DecodedAs x w s at r → kind ≡ kind_of x w → Listed x w → DecodedAt kind s at r
+pub decoded-at : {x : Command} {w : Form} {kind : ℕ} {s : List ℕ} {at : ℕ} {r : Result Operation Fault}
+    → DecodedAs x w s at r → kind ≡ kind_of x w → Listed x w → DecodedAt kind s at r
 decoded-at {x} {w} {kind} {s} {at} e k t = rw k (record { says = rw (row x w t) e.says; place = e.place })
 
 -- the same of a body that one call reads in either form
-pub decoded-either : {x : Command} {w : Form} {kind : ℕ} {s : List ℕ} {at : ℕ} {r : Result Operation Fault} → DecodedAs x w s at r → w ≡ form_at kind
-    → (kind ≡ kind_of x f.Plain) ⊎ (kind ≡ kind_of x f.Password) → Listed x f.Plain → Listed x f.Password → DecodedAt kind s at r
+pub decoded-either : {x : Command} {w : Form} {kind : ℕ} {s : List ℕ} {at : ℕ} {r : Result Operation Fault}
+    → DecodedAs x w s at r → w ≡ form_at kind
+    → (kind ≡ kind_of x f.Plain) ⊎ (kind ≡ kind_of x f.Password) → Listed x f.Plain → Listed x f.Password
+    → DecodedAt kind s at r
 decoded-either {x} {w} {kind} {s} {at} {r} e q p t u = ⊎_elim (go f.Plain t) (go f.Password u) p
   where
     go : (v : Form) → Listed x v → kind ≡ kind_of x v → DecodedAt kind s at r
@@ -162,10 +174,12 @@ unknown k h g = rw (lt-leb k 6 h) (go (leb 65 k) refl)
 
 -- and so is one that is none of the thirteen
 pub unknown-others : (k : ℕ) → Others k types → known k ≡ false
-unknown-others k o = unknown k (others-past k 0 7 [] (others-rest k 65 6 (from 0 7 []) o) zero-le) (others-past k 65 6 (from 0 7 []) o)
+unknown-others k o =
+    unknown k (others-past k 0 7 [] (others-rest k 65 6 (from 0 7 []) o) zero-le) (others-past k 65 6 (from 0 7 []) o)
 
 -- no body is read for it
-pub decoded-unknown : {kind : ℕ} {s : List ℕ} {at : ℕ} → 6 < kind → (65 ≤ kind → 70 < kind) → DecodedAt kind s at (Err Other)
+pub decoded-unknown : {kind : ℕ} {s : List ℕ} {at : ℕ} → 6 < kind → (65 ≤ kind → 70 < kind)
+    → DecodedAt kind s at (Err Other)
 unfolding request_body
 decoded-unknown {kind} h g = record { says = rw (unknown kind h g); place = tt }
 
@@ -187,7 +201,8 @@ module _ {s : List ℕ} (k : length s ≤ 2048) where
   -- nor are octets without a heading
   pub request-headless : {f : Fault} → HeadingOf s (Err f) → Understood s (Err f)
   request-headless {f} e = record {
-    says = rw (receive_all request_body request-lawful s k, decode-headless request_body request-lawful s _ e.says) (fault-told f);
+    says = rw (receive_all request_body request-lawful s k, decode-headless request_body request-lawful s _ e.says)
+        (fault-told f);
     place = tt;
   }
 
@@ -208,7 +223,8 @@ module _ {s : List ℕ} (k : length s ≤ 2048) where
       }
 
       -- a body that reads
-      pub request-good : {y : Operation} → DecodedAt h.kind s at (Ok y) → Understood s (Ok (record { version = h.version; operation = y }))
+      pub request-good : {y : Operation} → DecodedAt h.kind s at (Ok y)
+          → Understood s (Ok (record { version = h.version; operation = y }))
       request-good g = record {
         says = rw (receive_all request_body request-lawful s k, decode-body request_body request-lawful s _ _ _ e.says _ i.says, ← g.says, g.place.0);
         place = (e.place.1, g.place.1);

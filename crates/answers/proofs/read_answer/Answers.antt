@@ -12,7 +12,8 @@ returns-then-is_denial c = answer-denied c.if-s-gt2048.false (sym c.if-is_denial
 
 pub returns-in_err-version : goal.returns-in_err-version
 returns-in_err-version c =
-    rw (handed c.from_residual.ensures.1) (answer-headless c.if-s-gt2048.false (sym c.if-is_denial.ensures) c.in_err-version.ensures)
+    rw (handed c.from_residual.ensures.1)
+    (answer-headless c.if-s-gt2048.false (sym c.if-is_denial.ensures) c.in_err-version.ensures)
 
 pub returns-in_err-at : goal.returns-in_err-at
 returns-in_err-at c =
@@ -22,7 +23,10 @@ returns-in_err-at c =
 pub returns-in_err-given : goal.returns-in_err-given
 returns-in_err-given c =
     rw (handed c.from_residual-in_err-given.ensures.1)
-    (answer-bad c.if-s-gt2048.false (sym c.if-is_denial.ensures) c.in_ok-version.ensures c.in_ok-at.ensures c.in_err-given.ensures)
+    (answer-bad c.if-s-gt2048.false
+    (sym c.if-is_denial.ensures) c.in_ok-version.ensures c.in_ok-at.ensures c.in_err-given.ensures)
 
 pub returns : goal.returns
-returns c = answer-good c.if-s-gt2048.false (sym c.if-is_denial.ensures) c.in_ok-version.ensures c.in_ok-at.ensures c.in_ok-given.ensures
+returns c =
+    answer-good c.if-s-gt2048.false
+    (sym c.if-is_denial.ensures) c.in_ok-version.ensures c.in_ok-at.ensures c.in_ok-given.ensures

@@ -10,27 +10,39 @@ returns-in-128 c = decoded-at c.read_resources.ensures c.in-128.is tt
 
 pub returns-in_err-read_tag-in-129 : goal.returns-in_err-read_tag-in-129
 returns-in_err-read_tag-in-129 c =
-    decoded-either (tag-bad allocate b.allocate (λ l. refl) c.from_residual.ensures.1 c.in_err-read_tag-in-129.ensures) c.form_at-form.ensures c.in-129.is tt tt
+    decoded-either
+    (tag-bad allocate b.allocate (λ l. refl) c.from_residual.ensures.1 c.in_err-read_tag-in-129.ensures)
+    c.form_at-form.ensures c.in-129.is tt tt
 
 pub returns-in_ok-read_tag-in-129 : goal.returns-in_ok-read_tag-in-129
 returns-in_ok-read_tag-in-129 c =
-    decoded-either (tag-good allocate b.allocate (λ l. refl) c.in_ok-read_tag-in-129.ensures refl refl tt) c.form_at-form.ensures c.in-129.is tt tt
+    decoded-either
+    (tag-good allocate b.allocate (λ l. refl) c.in_ok-read_tag-in-129.ensures refl refl tt)
+    c.form_at-form.ensures c.in-129.is tt tt
 
 pub returns-in_err-read_tag-in-130 : goal.returns-in_err-read_tag-in-130
 returns-in_err-read_tag-in-130 c =
-    decoded-either (tag-bad free b.free (λ l. refl) c.from_residual-in_err-read_tag-in-130.ensures.1 c.in_err-read_tag-in-130.ensures) c.form_at-form.ensures c.in-130.is tt tt
+    decoded-either
+    (tag-bad free b.free (λ l. refl) c.from_residual-in_err-read_tag-in-130.ensures.1 c.in_err-read_tag-in-130.ensures)
+    c.form_at-form.ensures c.in-130.is tt tt
 
 pub returns-in_ok-read_tag-in-130 : goal.returns-in_ok-read_tag-in-130
 returns-in_ok-read_tag-in-130 c =
-    decoded-either (tag-good free b.free (λ l. refl) c.in_ok-read_tag-in-130.ensures refl refl tt) c.form_at-form.ensures c.in-130.is tt tt
+    decoded-either
+    (tag-good free b.free (λ l. refl) c.in_ok-read_tag-in-130.ensures refl refl tt)
+    c.form_at-form.ensures c.in-130.is tt tt
 
 pub returns-in_err-read_tag-in-132 : goal.returns-in_err-read_tag-in-132
 returns-in_err-read_tag-in-132 c =
-    decoded-either (tag-bad write b.write (λ l. refl) c.from_residual-in_err-read_tag-in-132.ensures.1 c.in_err-read_tag-in-132.ensures) c.form_at-form.ensures c.in-132.is tt tt
+    decoded-either
+    (tag-bad write b.write (λ l. refl) c.from_residual-in_err-read_tag-in-132.ensures.1 c.in_err-read_tag-in-132.ensures)
+    c.form_at-form.ensures c.in-132.is tt tt
 
 pub returns-in_ok-read_tag-in-132 : goal.returns-in_ok-read_tag-in-132
 returns-in_ok-read_tag-in-132 c =
-    decoded-either (tag-good write b.write (λ l. refl) c.in_ok-read_tag-in-132.ensures refl refl tt) c.form_at-form.ensures c.in-132.is tt tt
+    decoded-either
+    (tag-good write b.write (λ l. refl) c.in_ok-read_tag-in-132.ensures refl refl tt)
+    c.form_at-form.ensures c.in-132.is tt tt
 
 pub returns-in-131 : goal.returns-in-131
 returns-in-131 c = decoded-either c.read_read.ensures c.form_at-form.ensures c.in-131.is tt tt

@@ -8,31 +8,39 @@ use Rattle.requests.proofs.Readings.{handed, at-end, not-end}
 use Rattle.answers.proofs.Denials.{denial-cut, denial-fill, denial-on, denial-refused, past-supplement, supplement-bad, supplement-behind}
 use Rattle.answers.proofs.read_denial.Goals as goal
 
-pub returns-then-s-lt3 : goal.returns-then-s-lt3
-returns-then-s-lt3 c = denial-refused (rw (denial-cut c.args.s.now c.if-s-lt3.true c.requires))
+pub returns-in_default : goal.returns-in_default
+returns-in_default c = denial-refused (rw (denial-cut c.args.s.now (omega arith) c.requires))
 
 pub returns-then-fill_of-ne0 : goal.returns-then-fill_of-ne0
-returns-then-fill_of-ne0 c = denial-refused (rw (denial-fill c.args.s.now (omega arith) (λ z. c.if-fill_of-ne0.true (c.fill_of.ensures ∙ z))))
+returns-then-fill_of-ne0 c =
+    denial-refused (rw (denial-fill c.args.s.now (omega arith) (λ z. c.if-fill_of-ne0.true (c.fill_of.ensures ∙ z))))
 
 pub returns-in_err-read_data : goal.returns-in_err-read_data
 returns-in_err-read_data c =
     let e = c.in_err-read_data.ensures in
     rw (handed c.from_residual.ensures.1)
-    (denial-refused (rw (denial-on c.args.s.now c.if-s-lt3.false (sym c.fill_of.ensures ∙ c.if-fill_of-ne0.false) c.requires, ← e.says)))
+    (denial-refused
+    (rw (
+      denial-on c.args.s.now (omega arith)
+          (sym c.fill_of.ensures ∙ c.if-fill_of-ne0.false) c.requires,
+      ← e.says,
+    )))
 
 pub returns-in_err-supplement : goal.returns-in_err-supplement
 returns-in_err-supplement c =
     let b = not-end c.in_ok-read_data.ensures c.in_err-supplement.ensures in
     rw (handed c.from_residual-in_err-supplement.ensures.1, b.0)
-    (denial-refused (rw (denial-on c.args.s.now c.if-s-lt3.false (sym c.fill_of.ensures ∙ c.if-fill_of-ne0.false) c.requires)
+    (denial-refused
+    (rw (denial-on c.args.s.now (omega arith) (sym c.fill_of.ensures ∙ c.if-fill_of-ne0.false) c.requires)
     (supplement-behind _ _ 3 c.in_ok-read_data.ensures b.1)))
 
 pub returns-then-supplement-gt127 : goal.returns-then-supplement-gt127
 returns-then-supplement-gt127 c =
     let b = at-end c.in_ok-read_data.ensures c.in_ok-supplement.ensures in
     denial-refused (rw (
-      denial-on c.args.s.now c.if-s-lt3.false (sym c.fill_of.ensures ∙ c.if-fill_of-ne0.false) c.requires,
-      supplement-bad (get_or c.args.s.now 0 0 / 16) (get_or c.args.s.now 2 0) 3 c.in_ok-read_data.ensures (omega (arith, ap (λ (p : Span). p.len) b.0)),
+      denial-on c.args.s.now (omega arith) (sym c.fill_of.ensures ∙ c.if-fill_of-ne0.false) c.requires,
+      supplement-bad (get_or c.args.s.now 0 0 / 16) (get_or c.args.s.now 2 0) 3 c.in_ok-read_data.ensures
+          (omega (arith, ap (λ (p : Span). p.len) b.0)),
     ))
 
 pub returns : goal.returns
@@ -43,7 +51,7 @@ returns c =
     record {
       says = rw (
         b.0,
-        denial-on c.args.s.now c.if-s-lt3.false (sym c.fill_of.ensures ∙ c.if-fill_of-ne0.false) c.requires,
+        denial-on c.args.s.now (omega arith) (sym c.fill_of.ensures ∙ c.if-fill_of-ne0.false) c.requires,
         past-supplement (get_or c.args.s.now 0 0 / 16) (get_or c.args.s.now 2 0) 3 e n,
         end-there c.args.s.now _ c.in_ok-read_data.field-0.next b.1,
         c.version_of.ensures,

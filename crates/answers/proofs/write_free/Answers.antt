@@ -4,12 +4,15 @@ use native.Mathlib.Omega.{arith}
 use Rattle.octets.specs.declared.Form.TheVariants.{Plain}
 use Rattle.octets.specs.declared.Access.TheVariants as a
 use Rattle.tags.specs.Entry.{Keyed, key}
-use Rattle.answers.specs.Answer.{command_of, answer_kind, free}
+use Rattle.answers.specs.Answer.{answer_kind, free}
+use Rattle.requests.specs.Command as o
 use Rattle.answers.proofs.Answers.{sent-is}
 use Rattle.answers.proofs.write_free.Goals as goal
 
 pub returns : goal.returns
 returns c =
     let v : Keyed = (c.args.tag, a.Plain) in
-    let k : 130 + c.form_number-kind.result ≡ answer_kind (command_of (free v)) c.args.form = omega (arith, c.form_number-kind.ensures) in
-    rw (← sent-is (free v) c.args.form tt (key Plain) v refl refl k c.args.version c.args.out.now) c.write_key.ensures
+    let w = c.args.form in
+    let k : 130 + c.form_number-kind.result ≡ answer_kind o.free w = omega (arith, c.form_number-kind.ensures) in
+    rw (← sent-is (free v) w tt (key Plain) v refl refl k c.args.version c.args.out.now)
+    c.write_key.ensures

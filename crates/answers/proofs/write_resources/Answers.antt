@@ -11,5 +11,7 @@ use Rattle.answers.proofs.write_resources.Goals as goal
 pub returns : goal.returns
 unfolding resources_sent
 returns c =
-    let v : Room × List Resource = (c.args.room, resources_of c.args.tags.now c.args.modes.now c.args.held.now c.args.sizes.now) in
-    rw (← sent-is (resource_information v) Plain tt resources v refl refl refl c.args.version c.args.out.now) c.write_resources.ensures
+    let v : Room × List Resource =
+    (c.args.room, resources_of c.args.tags.now c.args.modes.now c.args.held.now c.args.sizes.now) in
+    rw (← sent-is (resource_information v) Plain tt resources v refl refl refl c.args.version c.args.out.now)
+    c.write_resources.ensures
