@@ -4,10 +4,9 @@ use mathlib.Core.Bool.{true}
 use mathlib.Core.Path.{◌≡◌, refl, sym, ap, ◌∙◌}
 use mathlib.Core.List.{List, [], ◌∷◌}
 use lib.ListN.{length}
-use Rattle.octets.specs.Area.{Does}
+use Rattle.octets.specs.Area.{Written, Does}
 use Rattle.octets.specs.declared.Access.{Access}
 use Rattle.octets.specs.declared.Form.{Form}
-use Rattle.octets.specs.declared.Written.{Written}
 use Rattle.octets.specs.declared.Port.{Port}
 use Rattle.tags.specs.Entry.{Keyed, Held}
 use Rattle.answers.specs.Answer.{Answer, accepted, answer, answer_writable, answer_sent}
@@ -18,8 +17,7 @@ use Rattle.store.specs.Answers.{Did}
 use Rattle.store.specs.Model.{State, Shows, Sound}
 use Rattle.store.specs.Steps.{write_step}
 use Rattle.responder.specs.Respond.{noted, all_writes, bulk_write_done}
-use Rattle.responder.specs.Entry.{sent_of, Serves}
-use Rattle.responder.specs.Entry.{Sent}
+use Rattle.responder.specs.Entry.{Sent, sent_of, Serves}
 use Rattle.responder.proofs.Sends.{sends}
 use Rattle.responder.proofs.Writable.{writable-short}
 
