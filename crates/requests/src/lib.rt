@@ -3,18 +3,21 @@
 // resources, by their contracts.
 #![tactic(auto)]
 
-ghost use Rattle.std.specs.Prelude.{[], ◌≡◌, ◌≤◌};
+ghost use Rattle.std.specs.Prelude.{[], ◌≡◌, ◌≤◌, drop};
+ghost use Rattle.octets.specs.Reading.{at_end};
 ghost use Rattle.octets.specs.Area.{Does};
-ghost use Rattle.tags.specs.Entry.{form_of};
+ghost use Rattle.tags.specs.Entry.{form_of, key};
+ghost use Rattle.tags.specs.View.{keyed};
 ghost use Rattle.lists.specs.Handed.{keys_of};
 ghost use Rattle.requests.specs.Command.{form_number};
 ghost use Rattle.requests.specs.Command as c;
 ghost use Rattle.requests.specs.Request as b;
 ghost use Rattle.requests.specs.Request.{request, request_sent, bulk_read_sent, bulk_write_sent};
-ghost use Rattle.requests.specs.View.{DecodedAs, DecodedAt, Understood};
+ghost use Rattle.requests.specs.View.{whole_in, DecodedAs, DecodedAt, Understood};
 
 use octets::{Access, Entries, Fault, Form, Heading, Span, Taken, Written};
 use resources::Allocation;
+use tags::Key;
 
 // What a request asks. A single operation carries its access; in a bulk list each entry has its own, and the operation says whether the entries have passwords.
 #[derive(Clone, Copy)]
@@ -57,8 +60,14 @@ fn read_body(s: &[u8], at: usize, kind: u8) -> Result<Operation, Fault>
     match kind {
         0 => read_resources(s, at),
         1 | 65 => read_allocate(s, at, form),
-        2 | 66 => read_free(s, at, form),
-        3 | 67 => read_read(s, at, form),
+        2 | 66 => {
+            let key = read_tag(s, at, form)?;
+            Ok(Operation::Free(key.access, key.tag))
+        }
+        3 | 67 => {
+            let key = read_tag(s, at, form)?;
+            Ok(Operation::Read(key.access, key.tag))
+        }
         4 | 68 => read_write(s, at, form),
         5 => read_bulk_read(s, at, Form::Plain),
         6 => read_bulk_write(s, at, Form::Plain),
@@ -130,13 +139,13 @@ pub fn write_allocate(
     resources::write_allocation(out, version, kind, access, tag, mode, size, initial)
 }
 
-// ---- free
+// ---- free and read
 
-fn read_free(s: &[u8], at: usize, form: Form) -> Result<Operation, Fault>
-    ensures { DecodedAs c.free form s.now at result }
+// A tag and how the right to it is shown, from a place to the last octet.
+fn read_tag(s: &[u8], at: usize, form: Form) -> Result<Key, Fault>
+    ensures { whole_in keyed result ≡ at_end ((key form).get (drop at s.now)) }
 {
-    let key = tags::read_key(s, at, form)?.to_end(s)?;
-    Ok(Operation::Free(key.access, key.tag))
+    tags::read_key(s, at, form)?.to_end(s)
 }
 
 pub fn write_free(out: &mut [u8], version: u8, access: Access, tag: u64) -> Written
@@ -144,15 +153,6 @@ pub fn write_free(out: &mut [u8], version: u8, access: Access, tag: u64) -> Writ
 {
     let kind = 2 + form_number(tags::form_of(access));
     tags::write_key(out, version, kind, access, tag)
-}
-
-// ---- read
-
-fn read_read(s: &[u8], at: usize, form: Form) -> Result<Operation, Fault>
-    ensures { DecodedAs c.read form s.now at result }
-{
-    let key = tags::read_key(s, at, form)?.to_end(s)?;
-    Ok(Operation::Read(key.access, key.tag))
 }
 
 pub fn write_read(out: &mut [u8], version: u8, access: Access, tag: u64) -> Written
