@@ -9,7 +9,7 @@ use lib.Seq.{length-take-le}
 use borrow.Author.Tests.{eq-eqb, le-leb, lt-leb}
 use Rattle.octets.specs.Area.{Written, Does}
 use Rattle.octets.specs.Length.{encode_length}
-use Rattle.octets.specs.Layout.{put_all, every}
+use Rattle.octets.specs.Layout.{put_all}
 use Rattle.octets.specs.Number.{bare}
 use Rattle.octets.specs.View.{within}
 use Rattle.octets.specs.declared.Access.{Access}
@@ -22,7 +22,7 @@ use Rattle.octets.proofs.Lists.{length-listed, put-snoc}
 use Rattle.octets.proofs.Spans.{span-length}
 use Rattle.tags.specs.Entry.{Keyed, Held, memory}
 use Rattle.tags.proofs.Entries.{length-memory}
-use Rattle.lists.specs.Handed.{agrees, held_at, held_of, inside_at, belong}
+use Rattle.lists.specs.Handed.{agrees, held_at, belong}
 use Rattle.answers.specs.Answer.{body_put, answer_writable, bulk_read_sent}
 use Rattle.answers.specs.Answer as b
 use Rattle.admission.specs.declared.Head.{Head}

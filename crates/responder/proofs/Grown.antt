@@ -5,7 +5,7 @@ use mathlib.Core.Bool.{true}
 use mathlib.Core.List.{List, [], ◌∷◌, ◌++◌}
 use native.Mathlib.Omega.{arith}
 use native.Mathlib.Numerals.{add-one}
-use lib.ListN.{length, get_or, set, take, drop, length-set, get_or-append}
+use lib.ListN.{length, get_or, set, take, length-set, get_or-append}
 use lib.Seq.{length-take-le, take-suc-set, get_or_at}
 use borrow.Author.Tests.{le-leb}
 use Rattle.octets.specs.Layout.{listed, every}

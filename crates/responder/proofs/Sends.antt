@@ -1,16 +1,16 @@
 -- An answer that may be written, in at most 2,048 octets, is written whole into an area of 2,048: what every way of replying comes to.
-use Prim.Native.Nat.{ℕ, ◌≤◌, ◌*◌, ◌<◌}
+use Prim.Native.Nat.{ℕ, ◌≤◌, ◌*◌}
 use mathlib.Core.Path.{◌≡◌, ◌∙◌, refl, ap}
 use mathlib.Core.Bool.{Bool, true}
 use mathlib.Core.List.{List, [], ◌∷◌}
 use native.Mathlib.Omega.{arith}
 use Rattle.std.proofs.Common.{rules}
 use lib.ListN.{length}
-use borrow.Author.Tests.{le-ltb, eq-eqb, ne_eqb}
+use borrow.Author.Tests.{le-ltb}
 use Rattle.octets.specs.Area.{Written, Outcome, done, outcome, written, described, Does}
 use Rattle.answers.specs.Answer.{Answer, answer_octets, answer_writable, answer_sent, accepted, answer}
 use Rattle.responder.specs.Entry.{Sent, sent_of, Sends, Serves, Denies}
-use Rattle.std.specs.Prelude.{Some, None, Ok, Err}
+use Rattle.std.specs.Prelude.{Some, Ok, Err}
 use Rattle.answers.specs.Denial.{denial_sent}
 use Rattle.tags.specs.Entry.{Keyed}
 use Rattle.store.specs.Answers.{Did}

@@ -1,9 +1,8 @@
 -- What is told of the tags of a list, entry by entry.
-use Prim.Native.Nat.{ℕ, ◌+◌, ◌<◌, ◌≤◌}
+use Prim.Native.Nat.{ℕ, ◌≤◌}
 use mathlib.Core.Path.{◌≡◌, refl, sym, ◌∙◌}
 use mathlib.Core.Bool.{true}
 use mathlib.Core.List.{List, [], ◌∷◌}
-use native.Mathlib.Omega.{arith}
 use lib.ListN.{length, take}
 use lib.Seq.{length-take-le}
 use Rattle.octets.specs.Area.{Written, Does}
@@ -11,20 +10,17 @@ use Rattle.octets.specs.declared.Access.{Access}
 use Rattle.octets.specs.declared.Form.TheVariants as f
 use Rattle.octets.specs.declared.Port.{Port}
 use Rattle.tags.specs.Entry.{Keyed}
-use Rattle.resources.specs.Resource.{resources_of, alongside}
 use Rattle.resources.specs.declared.Resource.{Resource}
 use Rattle.resources.specs.declared.Room.{Room}
 use Rattle.resources.proofs.Bodies.{are-alongside}
 use Rattle.answers.specs.Answer.{answer_writable, resource_information_sent}
-use Rattle.admission.specs.Mode.{mode_code}
-use Rattle.admission.specs.declared.Attributes.{Attributes}
 use Rattle.rows.specs.Keyed.{Maybe, nowhere, here}
 use Rattle.admission.specs.declared.Head.{Head}
 use Rattle.store.specs.Model.{State, Tag, Shows}
 use Rattle.store.specs.Steps.{registered}
 use Rattle.store.specs.Answers.{found}
 use Rattle.store.specs.declared.Found.{Found}
-use Rattle.responder.specs.Respond.{capped, room_of, size_told, told_of, all_told, resources_done}
+use Rattle.responder.specs.Respond.{room_of, told_of, all_told, resources_done}
 use Rattle.responder.specs.Entry.{Sent, sent_of, Sends, resources_in, found_told}
 use Rattle.std.specs.Prelude.{Option}
 use Rattle.responder.specs.declared.Information.{Information}

@@ -1,4 +1,3 @@
-use mathlib.Core.Path.{refl}
 use native.Mathlib.Omega.{arith}
 use Rattle.octets.specs.declared.Form.TheVariants as f
 use Rattle.tags.specs.Entry.{key}

@@ -1,6 +1,5 @@
 use native.Mathlib.Omega.{arith}
-use mathlib.Core.Path.{◌≡◌, refl}
-use lib.ListN.{length}
+use mathlib.Core.Path.{refl}
 use Rattle.responder.proofs.Chooses.{chooses-denied, chooses-over, chooses-one}
 use Rattle.responder.proofs.Chosen.choose.Goals as goal
 
