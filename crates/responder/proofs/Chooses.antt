@@ -32,7 +32,7 @@ use Rattle.store.specs.Answers.{ReadOf}
 use Rattle.admission.specs.declared.Denial.{Denial}
 use Rattle.std.specs.Prelude.{Result, Ok, Err}
 use Rattle.responder.specs.Respond.{named, given, all_reads, bulk_read_done}
-use Rattle.responder.specs.Entry.{Sent, sent_of, Sends, picked, Picked, Chooses}
+use Rattle.responder.specs.Entry.{Sent, sent_of, Sends, Gives, picked, Picked, Chooses}
 use Rattle.responder.specs.declared.Chosen.{Chosen}
 use Rattle.responder.proofs.Grown.{with_more, picked_more, inside-more}
 use Rattle.responder.proofs.Sends.{sends, described-so, version-is}
@@ -109,19 +109,15 @@ module _ (x : ℕ) (c : Chosen) (small : c.size ≤ 2041) where
 
 -- ---- the entries in turn
 
--- what was chosen so far lies in the memory, and what is left leads where the whole list leads
-pub record Going (u : State) (p : Port) (pool : List ℕ) (all left : List Keyed) (c : Chosen) : Type 0 where
+-- what was chosen so far lies in the memory, and what is left leads to the goal
+pub record Going (u : State) (p : Port) (pool : List ℕ) (goal : List Held) (left : List Keyed) (c : Chosen) : Type 0 where
   pub holds : Picked c pool
-  pub rest : all_reads u p (picked c pool) left ≡ all_reads u p [] all
+  pub rest : all_reads u p (picked c pool) left ≡ goal
 
-module _ (u : State) (p : Port) (pool : List ℕ) (all left : List Keyed) (c : Chosen) where
-  -- nothing at first
-  pub going-first : c.count ≡ 0 → c.size ≡ 0 → left ≡ all → Going u p pool all left c
-  going-first k z e = record { holds = record { inside = rw k; size = rw (k, z) }; rest = rw (k, e) }
-
+module _ (u : State) (p : Port) (pool : List ℕ) (goal : List Held) (left : List Keyed) (c : Chosen) where
   -- an entry more
   pub going_next : (x : ℕ) (a : Access) (now : List Keyed) (b : Chosen) (r : Result Span Denial) → now ≡ (x, a) ∷ left → ReadOf u x p a pool r
-      → Chooses r x b c → Going u p pool all now b → Going u p pool all left c
+      → Chooses r x b c → Going u p pool goal now b → Going u p pool goal left c
   unfolding all_reads
   going_next x a now b r e d s g =
       let k = s.grown pool u.limits d.place g.holds in
@@ -129,22 +125,28 @@ module _ (u : State) (p : Port) (pool : List ℕ) (all left : List Keyed) (c : C
       record { holds = k.0; rest = rw z (rw e at g.rest) }
 
   -- none is left
-  pub going-all : left ≡ [] → Going u p pool all left c → Picked c pool × (picked c pool ≡ all_reads u p [] all)
+  pub going-all : left ≡ [] → Going u p pool goal left c → Picked c pool × (picked c pool ≡ goal)
   unfolding all_reads
   going-all e g = (g.holds, rw e at g.rest)
 
 -- ---- the answer
 
--- arrays that describe what the list gives, written as the answer
-pub bulk-read-sent : (u : State) (h : Head) (table pool : List ℕ) → Shows u h table pool → (p : Port) (form : Form) (ks : List Keyed) → Low ks → length ks ≤ 16 → (c : Chosen) {w : Written} {r : Sent} {old new : List ℕ}
-    → c.count ≤ length c.tags → c.count ≤ length c.starts → c.count ≤ length c.lengths → Picked c pool → picked c pool ≡ all_reads u p [] ks → 2048 ≤ length old
-    → Does (bulk_read_sent form h.version (take c.count c.tags) (take c.count c.starts) (take c.count c.lengths) pool old) w new → r ≡ sent_of w
+-- the first elements of the arrays, written as the answer that gives them
+pub chosen-given : (c : Chosen) (version : ℕ) (form : Form) (pool old : List ℕ) {w : Written} {new : List ℕ} → c.count ≤ length c.tags → c.count ≤ length c.starts → c.count ≤ length c.lengths
+    → Does (bulk_read_sent form version (take c.count c.tags) (take c.count c.starts) (take c.count c.lengths) pool old) w new → Picked c pool
+    → Gives version form (b.bulk_read (picked c pool)) w old new
+unfolding belong agrees
+chosen-given c version form pool old et es el d i =
+    described-so _ _ old
+    (rw (length-take-le c.count c.tags et, eq-eqb _ _ (length-take-le c.count c.starts es), eq-eqb _ _ (length-take-le c.count c.lengths el), i.inside))
+    d
+
+-- it answers the list
+pub bulk-read-sent : (u : State) (h : Head) (table pool : List ℕ) → Shows u h table pool → (p : Port) (form : Form) (ks : List Keyed) → Low ks → length ks ≤ 16 → (hs : List Held) {w : Written} {r : Sent} {old new : List ℕ}
+    → hs ≡ all_reads u p [] ks → 2048 ≤ length old → Gives h.version form (b.bulk_read hs) w old new → r ≡ sent_of w
     → Sends (bulk_read_done u p form ks).reply r old new
-unfolding bulk_read_done belong agrees
-bulk-read-sent u h table pool s p form ks l n c {w} {r} {old} {new} et es el i e room d er =
+unfolding bulk_read_done
+bulk-read-sent u h table pool s p form ks l n hs e room d er =
     let a = (bulk_read_done u p form ks).reply in
     let g : answer_writable a ≡ true = bulk-read-fine u p form s.valid ks l n in
-    let t : belong f.Plain (take c.count c.tags) [] (take c.count c.starts) (take c.count c.lengths) pool ≡ true =
-    rw (length-take-le c.count c.tags et, eq-eqb _ _ (length-take-le c.count c.starts es), eq-eqb _ _ (length-take-le c.count c.lengths el), i.inside) in
-    let y = described-so _ _ old t d in
-    sends a g (writable-short a g) room (rw (version-is s, e) at y) er
+    sends a g (writable-short a g) room (rw (version-is s, e) at d) er

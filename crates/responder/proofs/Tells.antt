@@ -13,6 +13,7 @@ use Rattle.tags.specs.Entry.{Keyed}
 use Rattle.resources.specs.declared.Resource.{Resource}
 use Rattle.resources.specs.declared.Room.{Room}
 use Rattle.resources.proofs.Bodies.{are-alongside}
+use Rattle.answers.specs.Answer as b
 use Rattle.answers.specs.Answer.{answer_writable, resource_information_sent}
 use Rattle.rows.specs.Keyed.{Maybe, nowhere, here}
 use Rattle.admission.specs.declared.Head.{Head}
@@ -21,7 +22,7 @@ use Rattle.store.specs.Steps.{registered}
 use Rattle.store.specs.Answers.{found}
 use Rattle.store.specs.declared.Found.{Found}
 use Rattle.responder.specs.Respond.{room_of, told_of, all_told, resources_done}
-use Rattle.responder.specs.Entry.{Sent, sent_of, Sends, resources_in, found_told}
+use Rattle.responder.specs.Entry.{Sent, sent_of, Sends, Gives, resources_in, found_told}
 use Rattle.std.specs.Prelude.{Option}
 use Rattle.responder.specs.declared.Information.{Information}
 use Rattle.responder.proofs.Sends.{sends, described-so, version-is}
@@ -48,17 +49,24 @@ module _ (u : State) (rs goal : List Resource) where
 
 -- ---- the answer
 
--- arrays that tell of the list's tags, written as the answer
-pub resources-sent : (u : State) (h : Head) (table pool : List ℕ) → Shows u h table pool → (ks : List Keyed) → Low ks → length ks ≤ 16 → (c : Information) (x : Room) {w : Written} {r : Sent} {old new : List ℕ}
-    → x ≡ room_of u → c.count ≤ length c.tags → c.count ≤ length c.modes → c.count ≤ length c.held → c.count ≤ length c.sizes → resources_in c ≡ all_told u [] ks → 2048 ≤ length old
-    → Does (resource_information_sent h.version x (take c.count c.tags) (take c.count c.modes) (take c.count c.held) (take c.count c.sizes) old) w new → r ≡ sent_of w
+-- the first elements of the arrays, written as the answer that tells of them
+pub resources-given : (c : Information) (version : ℕ) (x : Room) (old : List ℕ) {w : Written} {new : List ℕ}
+    → c.count ≤ length c.tags → c.count ≤ length c.modes → c.count ≤ length c.held → c.count ≤ length c.sizes
+    → Does (resource_information_sent version x (take c.count c.tags) (take c.count c.modes) (take c.count c.held) (take c.count c.sizes) old) w new
+    → Gives version f.Plain (b.resource_information (x, resources_in c)) w old new
+resources-given c version x old et em eh es d =
+    let k = length-take-le c.count c.tags et in
+    described-so _ _ old
+    (are-alongside (take c.count c.tags) (take c.count c.modes) (take c.count c.held) (take c.count c.sizes)
+    (length-take-le c.count c.modes em ∙ sym k) (length-take-le c.count c.held eh ∙ sym k) (length-take-le c.count c.sizes es ∙ sym k))
+    d
+
+-- it answers the list
+pub resources-sent : (u : State) (h : Head) (table pool : List ℕ) → Shows u h table pool → (ks : List Keyed) → Low ks → length ks ≤ 16 → (x : Room) (rs : List Resource) {w : Written} {r : Sent} {old new : List ℕ}
+    → x ≡ room_of u → rs ≡ all_told u [] ks → 2048 ≤ length old → Gives h.version f.Plain (b.resource_information (x, rs)) w old new → r ≡ sent_of w
     → Sends (resources_done u ks).reply r old new
 unfolding resources_done
-resources-sent u h table pool s ks l n c x {w} {r} {old} {new} ex et em eh es e room d er =
+resources-sent u h table pool s ks l n x rs ex e room d er =
     let a = (resources_done u ks).reply in
     let g : answer_writable a ≡ true = resources-fine u Port.Normal f.Plain s.valid ks l n in
-    let k = length-take-le c.count c.tags et in
-    let b = are-alongside (take c.count c.tags) (take c.count c.modes) (take c.count c.held) (take c.count c.sizes)
-    (length-take-le c.count c.modes em ∙ sym k) (length-take-le c.count c.held eh ∙ sym k) (length-take-le c.count c.sizes es ∙ sym k) in
-    let y = described-so _ _ old b d in
-    sends a g (writable-short a g) room (rw (version-is s, ex, e) at y) er
+    sends a g (writable-short a g) room (rw (version-is s, ex, e) at d) er

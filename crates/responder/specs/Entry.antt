@@ -1,14 +1,16 @@
 -- What the entry's promise says of its result, of the answer area and of head, table and memory.
 use Rattle.std.specs.Prelude.{ℕ, ◌+◌, ◌≤◌, ◌≡◌, true, List, [], ◌∷◌, ◌++◌, length, take, drop, Option, Some, None, Result, Ok, Err}
 use Rattle.octets.specs.Layout.{put_all, every}
+use Rattle.octets.specs.declared.Form.{Form}
 use Rattle.octets.specs.declared.Form.TheVariants.{Plain}
-use Rattle.octets.specs.Area.{Written}
+use Rattle.octets.specs.Area.{Written, Does}
 use Rattle.tags.specs.Entry.{Keyed, Held, memory}
 use Rattle.lists.specs.Handed.{keys_of, held_of, inside_at}
 use Rattle.resources.specs.Resource.{resources_of}
 use Rattle.resources.specs.declared.Resource.{Resource}
 use Rattle.admission.specs.declared.Limits.{Limits}
-use Rattle.answers.specs.Answer.{Answer, answer_octets}
+use Rattle.answers.specs.Answer.{Answer, answer, accepted, answer_octets, answer_sent}
+use Rattle.answers.specs.Answer as b
 use Rattle.store.specs.Answers.{held_in, HeldPlace}
 use Rattle.store.specs.Model.{Shows}
 use Rattle.octets.specs.declared.Span.{Span}
@@ -18,7 +20,7 @@ use Rattle.admission.specs.Denial as v
 use Rattle.admission.specs.declared.Head.{Head}
 use Rattle.requests.specs.declared.Operation.{Operation}
 use Rattle.requests.specs.declared.Operation.TheVariants as o
-use Rattle.responder.specs.Respond.{Done, denial, resource_as, given, Line, number, none, Result as Outcome, silent, replied, Out}
+use Rattle.responder.specs.Respond.{Done, denial, resource_as, given, Line, number, none, Result as Outcome, silent, replied, Out, Writes}
 use Rattle.responder.specs.declared.Information.{Information}
 use Rattle.responder.specs.declared.Chosen.{Chosen}
 use Rattle.responder.specs.declared.Names.{Names}
@@ -71,6 +73,10 @@ count_of (o.Read access tag) = 0
 count_of (o.Write access tag span) = 0
 count_of (o.BulkRead w list) = list.count
 count_of (o.BulkWrite w list) = list.count
+
+-- what comes of writing an answer with that body: its length, or why it is not written; and the area afterwards
+abbrev pub Gives : ℕ → Form → b.Body → Written → List ℕ → List ℕ → Type 0
+Gives version w body r old new = Does (answer_sent (accepted (answer version w body)) old) r new
 
 -- an answer was written into the area
 pub record Sends (a : Answer) (r : Sent) (old new : List ℕ) : Type 0 where
@@ -129,3 +135,8 @@ pub record Chooses (held : Result Span Denial) (tag : ℕ) (c r : Chosen) : Type
   pub small : r.size ≤ 2041
   pub grown : (pool : List ℕ) (l : Limits) → HeldPlace pool l held → Picked c pool
       → Picked r pool × (picked r pool ≡ given (picked c pool) tag (held_in pool held))
+
+-- the names of what was written, and head, table and memory for the unit afterwards
+pub record Wrote (e : Writes) (names : List Keyed) (head : Head) (table pool : List ℕ) : Type 0 where
+  pub says : names ≡ e.names
+  pub left : Shows e.unit head table pool

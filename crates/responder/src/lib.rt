@@ -9,10 +9,11 @@ ghost use Rattle.octets.specs.Reading.{message};
 ghost use Rattle.tags.specs.Entry.{form_of, key, memory};
 ghost use Rattle.resources.specs.View.{grant_in};
 ghost use Rattle.requests.specs.View.{operation_kind, operation_body, OperationPlace, ListEnds};
+ghost use Rattle.answers.specs.Answer as b;
 ghost use Rattle.admission.specs.Denial.{number, verdict_of};
 ghost use Rattle.store.specs.Model.{State, head_of, Shows, Sound};
 ghost use Rattle.responder.specs.Respond.{denial as denial_of, allocate_done, free_done, read_done, write_done, size_told, room_of, resource_as, all_told, resources_done, all_reads, bulk_read_done, noted, all_writes, bulk_write_done, served, fitted, first_lines, handled, respond};
-ghost use Rattle.responder.specs.Entry.{sent_of, line_of, count_of, resources_in, found_told, names_in, picked, Picked, Chooses, Sends, Serves, Served, Responded};
+ghost use Rattle.responder.specs.Entry.{sent_of, line_of, count_of, resources_in, found_told, names_in, picked, Picked, Chooses, Wrote, Gives, Sends, Serves, Served, Responded};
 
 use admission::{Denial, Head, Mode};
 use octets::{Access, Entries, Form, Port, Span, Taken, Written};
@@ -281,25 +282,40 @@ impl Information {
         self.sizes[k] = resource.size;
         self.count = k + 1;
     }
+
+    fn write(&self, answer: &mut [u8], version: u8, room: Room) -> Written
+        requires { self.now.count ≤ 16 }
+        ensures { Gives version Form.Plain (b.resource_information (room, resources_in self.now)) result answer.old answer.new }
+    {
+        let k = self.count;
+        answers::write_resources(
+            answer,
+            version,
+            room,
+            &self.tags[..k],
+            &self.modes[..k],
+            &self.held[..k],
+            &self.sizes[..k],
+        )
+    }
 }
 
 // Tells of each tag of a list that is registered.
-fn tell_each(head: Head, table: &[u64], s: &[u8], list: Entries) -> Information
-    requires room { list.count ≤ 16 }
+fn tell_each(head: Head, table: &[u64], s: &[u8], list: Entries, information: &mut Information)
+    requires room { information.old.count + list.count ≤ 16 }
     requires list_ends { ListEnds (key Form.Plain) s.now list }
-    ensures { (result.count ≤ list.count) × ((u : State) (pool : List ℕ) → Shows u head table.now pool
-        → resources_in result ≡ all_told u [] (entries_in (key Form.Plain) s.now list)) }
+    ensures few { information.new.count ≤ information.old.count + list.count }
+    ensures told { (u : State) (pool : List ℕ) → Shows u head table.now pool
+        → resources_in information.new ≡ all_told u (resources_in information.old) (entries_in (key Form.Plain) s.now list) }
 {
-    let mut information = Information::new();
     let mut at = list.start;
     for _ in 0..list.count {
         let Ok(Taken { value: key, next }) = tags::read_key(s, at, Form::Plain) else {
-            return information;
+            return;
         };
         information.tell(store::find(head, table, key.tag));
         at = next;
     }
-    information
 }
 
 fn serve_resources(head: Head, table: &[u64], s: &[u8], list: Entries, answer: &mut [u8]) -> Sent
@@ -308,18 +324,9 @@ fn serve_resources(head: Head, table: &[u64], s: &[u8], list: Entries, answer: &
     ensures { (u : State) (pool : List ℕ) → Shows u head table.now pool
         → Sends (resources_done u (entries_in (key Form.Plain) s.now list)).reply result answer.old answer.new }
 {
-    let information = tell_each(head, table, s, list);
-    let room = room_of(head);
-    let k = information.count;
-    told(answers::write_resources(
-        answer,
-        head.version,
-        room,
-        &information.tags[..k],
-        &information.modes[..k],
-        &information.held[..k],
-        &information.sizes[..k],
-    ))
+    let mut information = Information::new();
+    tell_each(head, table, s, list, &mut information);
+    told(information.write(answer, head.version, room_of(head)))
 }
 
 // ---- bulk read
@@ -337,7 +344,8 @@ struct Chosen {
 
 impl Chosen {
     fn new() -> Chosen
-        ensures { (result.count ≡ 0) × (result.size ≡ 0) }
+        ensures none { (result.count ≡ 0) × (result.size ≡ 0) }
+        ensures picked { (pool : List ℕ) → Picked result pool × (picked result pool ≡ []) }
     {
         Chosen {
             tags: [0; 16],
@@ -371,26 +379,49 @@ impl Chosen {
         self.count = k + 1;
         self.size = size;
     }
+
+    fn write(&self, answer: &mut [u8], version: u8, form: Form, pool: &[u8]) -> Written
+        requires { self.now.count ≤ 16 }
+        ensures { Picked self.now pool.now → Gives version form (b.bulk_read (picked self.now pool.now)) result answer.old answer.new }
+    {
+        let k = self.count;
+        answers::write_bulk_read(
+            answer,
+            version,
+            form,
+            &self.tags[..k],
+            &self.starts[..k],
+            &self.lengths[..k],
+            pool,
+        )
+    }
 }
 
 // Chooses from the entries of a list in turn.
-fn choose_each(head: Head, table: &[u64], port: Port, form: Form, s: &[u8], list: Entries) -> Chosen
-    requires room { list.count ≤ 16 }
+fn choose_each(
+    head: Head,
+    table: &[u64],
+    port: Port,
+    form: Form,
+    s: &[u8],
+    list: Entries,
+    chosen: &mut Chosen,
+)
+    requires room { (chosen.old.count + list.count ≤ 16) × (chosen.old.size ≤ 2041) }
     requires list_ends { ListEnds (key form) s.now list }
-    ensures { (result.count ≤ list.count) × ((u : State) (pool : List ℕ) → Shows u head table.now pool
-        → Picked result pool × (picked result pool ≡ all_reads u port [] (entries_in (key form) s.now list))) }
+    ensures few { chosen.new.count ≤ chosen.old.count + list.count }
+    ensures chosen { (u : State) (pool : List ℕ) → Shows u head table.now pool → Picked chosen.old pool
+        → Picked chosen.new pool × (picked chosen.new pool ≡ all_reads u port (picked chosen.old pool) (entries_in (key form) s.now list)) }
 {
-    let mut chosen = Chosen::new();
     let mut at = list.start;
     for _ in 0..list.count {
         let Ok(Taken { value: key, next }) = tags::read_key(s, at, form) else {
-            return chosen;
+            return;
         };
         let held = store::read(head, table, key.tag, port, key.access);
         chosen.choose(key.tag, held);
         at = next;
     }
-    chosen
 }
 
 fn bulk_read(
@@ -409,17 +440,9 @@ fn bulk_read(
     ensures { (u : State) → Shows u head table.now pool.now
         → Sends (bulk_read_done u port form (entries_in (key form) s.now list)).reply result answer.old answer.new }
 {
-    let chosen = choose_each(head, table, port, form, s, list);
-    let k = chosen.count;
-    told(answers::write_bulk_read(
-        answer,
-        head.version,
-        form,
-        &chosen.tags[..k],
-        &chosen.starts[..k],
-        &chosen.lengths[..k],
-        pool,
-    ))
+    let mut chosen = Chosen::new();
+    choose_each(head, table, port, form, s, list, &mut chosen);
+    told(chosen.write(answer, head.version, form, pool))
 }
 
 // ---- bulk write
@@ -453,9 +476,16 @@ impl Names {
         self.tags[self.count] = octets::bare_tag(tag);
         self.count += 1;
     }
+
+    fn write(&self, answer: &mut [u8], version: u8, form: Form) -> Written
+        requires { self.now.count ≤ 16 }
+        ensures { Gives version form (b.bulk_write (names_in self.now)) result answer.old answer.new }
+    {
+        answers::write_bulk_write(answer, version, form, &self.tags[..self.count])
+    }
 }
 
-// Writes the entries of a list in turn; one that a single command would deny is passed over. The names of those written.
+// Writes the entries of a list in turn and notes the names of those written. One that a single command would deny is passed over.
 fn write_each(
     head: Head,
     table: &mut [u64],
@@ -464,15 +494,15 @@ fn write_each(
     form: Form,
     s: &[u8],
     list: Entries,
-) -> Names
+    names: &mut Names,
+)
     requires sound { Sound head table.old pool.old }
-    requires room { list.count ≤ 16 }
+    requires room { names.old.count + list.count ≤ 16 }
     requires list_ends { ListEnds (memory form) s.now list }
-    ensures { (result.count ≤ list.count) × ((u : State) → Shows u head table.old pool.old
-        → (names_in result ≡ (all_writes port (record { names = []; unit = u }) (entries_in (memory form) s.now list)).names)
-        × Shows (all_writes port (record { names = []; unit = u }) (entries_in (memory form) s.now list)).unit head table.new pool.new) }
+    ensures few { names.new.count ≤ names.old.count + list.count }
+    ensures written { (u : State) → Shows u head table.old pool.old
+        → Wrote (all_writes port (record { names = names_in names.old; unit = u }) (entries_in (memory form) s.now list)) (names_in names.new) head table.new pool.new }
 {
-    let mut names = Names::new();
     let mut at = list.start;
     for _ in 0..list.count {
         let Ok(
@@ -482,14 +512,13 @@ fn write_each(
             },
         ) = tags::read_memory(s, at, form)
         else {
-            return names;
+            return;
         };
         let src = octets::part(s, memory.span.start, memory.span.len);
         let written = store::write(head, table, pool, memory.tag, src, port, memory.access);
         names.note(memory.tag, written);
         at = next;
     }
-    names
 }
 
 fn bulk_write(
@@ -508,8 +537,9 @@ fn bulk_write(
     ensures { (u : State) → Shows u head table.old pool.old
         → Serves (bulk_write_done u port form (entries_in (memory form) s.now list)) (record { head = head; sent = result }) answer.old answer.new table.new pool.new }
 {
-    let names = write_each(head, table, pool, port, form, s, list);
-    told(answers::write_bulk_write(answer, head.version, form, &names.tags[..names.count]))
+    let mut names = Names::new();
+    write_each(head, table, pool, port, form, s, list, &mut names);
+    told(names.write(answer, head.version, form))
 }
 
 // ---- the entry

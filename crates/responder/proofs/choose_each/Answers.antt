@@ -1,15 +1,15 @@
 use native.Mathlib.Omega.{arith}
 use Rattle.tags.specs.Entry.{key}
 use Rattle.responder.proofs.Walks.{walk-first, left-first, never-bad, walk-next, left-on, left-none}
-use Rattle.responder.proofs.Chooses.{going-first, going_next, going-all}
+use Rattle.responder.proofs.Chooses.{going_next, going-all}
 use Rattle.responder.proofs.choose_each.Goals as goal
 
 pub loop-init : goal.loop-init
 loop-init c = record {
   few = omega arith;
-  small = omega arith;
+  small = c.requires.room.1;
   walk = walk-first _ _ _ c.requires.list_ends;
-  leads = λ u pool s. going-first u _ _ _ _ _ c.new-chosen.ensures.0 c.new-chosen.ensures.1 (left-first (key c.args.form) c.args.s.now c.args.list);
+  leads = λ u pool s k. record { holds = k; rest = rw (left-first (key c.args.form) c.args.s.now c.args.list) };
 }
 
 pub returns-in_default : goal.returns-in_default
@@ -26,8 +26,11 @@ loop-preserved c =
       few = omega (arith, c.choose.ensures.few, c.loop.invariant.few);
       small = c.choose.ensures.small;
       walk = walk-next _ _ _ w c.loop-test.true _ e.says e.place;
-      leads = λ u pool s. going_next u _ _ _ _ _ _ _ _ _ _ (left-on _ _ _ w c.loop-test.true _ e.says) (c.read-held.ensures u pool s) c.choose.ensures (c.loop.invariant.leads u pool s);
+      leads = λ u pool s k. going_next u _ _ _ _ _ _ _ _ _ _ (left-on _ _ _ w c.loop-test.true _ e.says) (c.read-held.ensures u pool s) c.choose.ensures (c.loop.invariant.leads u pool s k);
     }
 
 pub returns : goal.returns
-returns c = (omega (arith, c.loop.invariant.few), λ u pool s. going-all u _ _ _ _ _ (left-none _ _ _ c.loop.invariant.walk c.loop-test.false) (c.loop.invariant.leads u pool s))
+returns c = record {
+  few = omega (arith, c.loop.invariant.few);
+  chosen = λ u pool s k. going-all u _ _ _ _ _ (left-none _ _ _ c.loop.invariant.walk c.loop-test.false) (c.loop.invariant.leads u pool s k);
+}

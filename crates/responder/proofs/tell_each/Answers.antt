@@ -9,7 +9,7 @@ pub loop-init : goal.loop-init
 loop-init c = record {
   few = omega arith;
   walk = walk-first _ _ _ c.requires.list_ends;
-  leads = λ u pool s. rw (c.new-information.ensures.1, left-first (key f.Plain) c.args.s.now c.args.list);
+  leads = λ u pool s. rw (left-first (key f.Plain) c.args.s.now c.args.list);
 }
 
 pub returns-in_default : goal.returns-in_default
@@ -26,4 +26,7 @@ loop-preserved c =
     }
 
 pub returns : goal.returns
-returns c = (omega (arith, c.loop.invariant.few), λ u pool s. telling-all u _ _ _ (left-none _ _ _ c.loop.invariant.walk c.loop-test.false) (c.loop.invariant.leads u pool s))
+returns c = record {
+  few = omega (arith, c.loop.invariant.few);
+  told = λ u pool s. telling-all u _ _ _ (left-none _ _ _ c.loop.invariant.walk c.loop-test.false) (c.loop.invariant.leads u pool s);
+}
