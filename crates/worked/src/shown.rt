@@ -1,11 +1,9 @@
 // Shows octets, and what their reader says that they are: the case, its tags and passwords, data as the part of the message where it stands, and the entries of a
 // list, each read where the one before it ends. Text goes to standard output; no contract can speak of it.
 use answers::{Given, Reply};
-use octets::{Access, Form};
+use octets::{Access, Form, Taken};
 use requests::{Operation, Request};
-use resources::ResourceRead;
 use std::io;
-use tags::{Key, Memory};
 
 // Of longer data and lists, so many octets and entries are shown.
 const SHOWN: usize = 2;
@@ -82,39 +80,34 @@ enum Entry {
     Resource,
 }
 
-// Shows the entry at a place, and says where the next one starts.
+// Shows the entry at a place, and says where the next one starts; where none stands, the same place.
 fn next_entry(rt: &impl Print, s: &[u8], at: usize, of: Entry) -> io::Result<usize> {
     match of {
-        Entry::Key(form) => match tags::read_key(s, at, form) {
-            Key::Bad => Ok(at),
-            Key::Value { access, tag, next } => {
-                key(rt, "", access, tag)?;
-                Ok(next)
-            }
-        },
-        Entry::Memory(form) => match tags::read_memory(s, at, form) {
-            Memory::Bad(_fault) => Ok(at),
-            Memory::Value {
-                access,
-                tag,
-                span,
-                next,
-            } => {
-                key(rt, "", access, tag)?;
-                held(rt, s, span)?;
-                Ok(next)
-            }
-        },
-        Entry::Resource => match resources::read_resource(s, at) {
-            ResourceRead::Bad => Ok(at),
-            ResourceRead::Value { resource, next } => {
-                word(rt, resource.tag)?;
-                number(rt, resource.mode as usize)?;
-                number(rt, resource.held as usize)?;
-                number(rt, resource.size as usize)?;
-                Ok(next)
-            }
-        },
+        Entry::Key(form) => {
+            let Ok(Taken { value, next }) = tags::read_key(s, at, form) else {
+                return Ok(at);
+            };
+            key(rt, "", value.access, value.tag)?;
+            Ok(next)
+        }
+        Entry::Memory(form) => {
+            let Ok(Taken { value, next }) = tags::read_memory(s, at, form) else {
+                return Ok(at);
+            };
+            key(rt, "", value.access, value.tag)?;
+            held(rt, s, value.span)?;
+            Ok(next)
+        }
+        Entry::Resource => {
+            let Ok(Taken { value, next }) = resources::read_resource(s, at) else {
+                return Ok(at);
+            };
+            word(rt, value.tag)?;
+            number(rt, value.mode as usize)?;
+            number(rt, value.held as usize)?;
+            number(rt, value.size as usize)?;
+            Ok(next)
+        }
     }
 }
 
@@ -169,8 +162,8 @@ fn request_body(rt: &impl Print, s: &[u8], what: Operation) -> io::Result<()> {
 // A line: what octets are as a request, or 16.
 pub(crate) fn request(rt: &impl Print, s: &[u8]) -> io::Result<()> {
     match requests::read_request(s) {
-        Request::Bad(_fault) => text(rt, " 16")?,
-        Request::Message { version, operation } => {
+        Err(_) => text(rt, " 16")?,
+        Ok(Request { version, operation }) => {
             number(rt, version as usize)?;
             request_body(rt, s, operation)?;
         }
@@ -224,18 +217,20 @@ fn answer_body(rt: &impl Print, s: &[u8], what: Given) -> io::Result<()> {
 // A line: what octets are as an answer or a denial, or 16.
 pub(crate) fn answer(rt: &impl Print, s: &[u8]) -> io::Result<()> {
     match answers::read_answer(s) {
-        Reply::Bad(_fault) => text(rt, " 16")?,
-        Reply::Denied {
-            version,
-            status,
-            supplement,
-        } => {
+        Err(_) => text(rt, " 16")?,
+        Ok(
+            Reply::Denied {
+                version,
+                status,
+                supplement,
+            },
+        ) => {
             number(rt, version as usize)?;
             text(rt, " denied")?;
             number(rt, status as usize)?;
             held(rt, s, supplement)?;
         }
-        Reply::Accepted { version, given } => {
+        Ok(Reply::Accepted { version, given }) => {
             number(rt, version as usize)?;
             answer_body(rt, s, given)?;
         }
