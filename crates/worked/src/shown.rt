@@ -1,7 +1,7 @@
 // Shows octets, and what their reader says that they are: the case, its tags and passwords, data as the part of the message where it stands, and the entries of a
 // list, each read where the one before it ends. Text goes to standard output; no contract can speak of it.
 use answers::{Given, Reply};
-use octets::{Access, Form, Taken};
+use octets::{Access, Entries, Form, Span, Taken};
 use requests::{Operation, Request};
 use std::io;
 
@@ -65,65 +65,58 @@ fn place(rt: &impl Print, count: usize, start: usize) -> io::Result<()> {
 }
 
 // Data, as the part of the message where it stands.
-fn held(rt: &impl Print, s: &[u8], span: octets::Span) -> io::Result<()> {
+fn held(rt: &impl Print, s: &[u8], span: Span) -> io::Result<()> {
     let start = span.start;
     let len = span.len;
     place(rt, len, start)?;
     hexadecimal(rt, octets::part(octets::part(s, start, len), 0, SHOWN))
 }
 
-// What a list is of.
-#[derive(Clone, Copy)]
-enum Entry {
-    Key(Form),
-    Memory(Form),
-    Resource,
+// ---- the entries of a list: each is shown, and tells where the next one starts; where none stands, the same place
+
+fn next_key(rt: &impl Print, s: &[u8], at: usize, form: Form) -> io::Result<usize> {
+    let Ok(Taken { value, next }) = tags::read_key(s, at, form) else {
+        return Ok(at);
+    };
+    key(rt, "", value.access, value.tag)?;
+    Ok(next)
 }
 
-// Shows the entry at a place, and says where the next one starts; where none stands, the same place.
-fn next_entry(rt: &impl Print, s: &[u8], at: usize, of: Entry) -> io::Result<usize> {
-    match of {
-        Entry::Key(form) => {
-            let Ok(Taken { value, next }) = tags::read_key(s, at, form) else {
-                return Ok(at);
-            };
-            key(rt, "", value.access, value.tag)?;
-            Ok(next)
-        }
-        Entry::Memory(form) => {
-            let Ok(Taken { value, next }) = tags::read_memory(s, at, form) else {
-                return Ok(at);
-            };
-            key(rt, "", value.access, value.tag)?;
-            held(rt, s, value.span)?;
-            Ok(next)
-        }
-        Entry::Resource => {
-            let Ok(Taken { value, next }) = resources::read_resource(s, at) else {
-                return Ok(at);
-            };
-            word(rt, value.tag)?;
-            number(rt, value.mode as usize)?;
-            number(rt, value.held as usize)?;
-            number(rt, value.size as usize)?;
-            Ok(next)
-        }
-    }
+fn next_memory(rt: &impl Print, s: &[u8], at: usize, form: Form) -> io::Result<usize> {
+    let Ok(Taken { value, next }) = tags::read_memory(s, at, form) else {
+        return Ok(at);
+    };
+    key(rt, "", value.access, value.tag)?;
+    held(rt, s, value.span)?;
+    Ok(next)
 }
 
-fn list(
+fn next_resource(rt: &impl Print, s: &[u8], at: usize) -> io::Result<usize> {
+    let Ok(Taken { value, next }) = resources::read_resource(s, at) else {
+        return Ok(at);
+    };
+    word(rt, value.tag)?;
+    number(rt, value.mode as usize)?;
+    number(rt, value.held as usize)?;
+    number(rt, value.size as usize)?;
+    Ok(next)
+}
+
+// A list: its operation, where it stands, and the first of its entries, each shown by `next`.
+fn list<F: Fn(usize) -> io::Result<usize>>(
     rt: &impl Print,
     name: &str,
     form: Form,
-    s: &[u8],
-    entries: octets::Entries,
-    of: Entry,
-) -> io::Result<()> {
+    entries: Entries,
+    next: F,
+) -> io::Result<()>
+    requires { F.IsAlwaysCallable next }
+{
     operation(rt, name, form)?;
     place(rt, entries.count, entries.start)?;
     let mut at = entries.start;
     for _ in 0..entries.count.min(SHOWN) {
-        at = next_entry(rt, s, at, of)?;
+        at = next(at)?;
     }
     Ok(())
 }
@@ -134,7 +127,9 @@ fn request_body(rt: &impl Print, s: &[u8], what: Operation) -> io::Result<()> {
     match what {
         Operation::Resources(entries) => {
             let plain = Form::Plain;
-            list(rt, " resources", plain, s, entries, Entry::Key(plain))
+            list(rt, " resources", plain, entries, |at| {
+                next_key(rt, s, at, plain)
+            })
         }
         Operation::Allocate(allocation) => {
             let access = allocation.access;
@@ -151,10 +146,18 @@ fn request_body(rt: &impl Print, s: &[u8], what: Operation) -> io::Result<()> {
             held(rt, s, span)
         }
         Operation::BulkRead(form, entries) => {
-            list(rt, " bulk-read", form, s, entries, Entry::Key(form))
+            list(
+                rt,
+                " bulk-read",
+                form,
+                entries,
+                |at| next_key(rt, s, at, form),
+            )
         }
         Operation::BulkWrite(form, entries) => {
-            list(rt, " bulk-write", form, s, entries, Entry::Memory(form))
+            list(rt, " bulk-write", form, entries, |at| {
+                next_memory(rt, s, at, form)
+            })
         }
     }
 }
@@ -189,7 +192,9 @@ fn answer_body(rt: &impl Print, s: &[u8], what: Given) -> io::Result<()> {
             number(rt, room.volatile_tags as usize)?;
             number(rt, room.volatile_octets as usize)?;
             number(rt, room.entries as usize)?;
-            list(rt, " resources", Form::Plain, s, entries, Entry::Resource)
+            list(rt, " resources", Form::Plain, entries, |at| {
+                next_resource(rt, s, at)
+            })
         }
         Given::Allocate(form, tag) => given(rt, " allocate", form, tag),
         Given::Free(form, tag) => given(rt, " free", form, tag),
@@ -199,17 +204,14 @@ fn answer_body(rt: &impl Print, s: &[u8], what: Given) -> io::Result<()> {
         }
         Given::Write(form, tag) => given(rt, " write", form, tag),
         Given::BulkRead(form, entries) => {
-            list(
-                rt,
-                " bulk-read",
-                form,
-                s,
-                entries,
-                Entry::Memory(Form::Plain),
-            )
+            list(rt, " bulk-read", form, entries, |at| {
+                next_memory(rt, s, at, Form::Plain)
+            })
         }
         Given::BulkWrite(form, entries) => {
-            list(rt, " bulk-write", form, s, entries, Entry::Key(Form::Plain))
+            list(rt, " bulk-write", form, entries, |at| {
+                next_key(rt, s, at, Form::Plain)
+            })
         }
     }
 }
