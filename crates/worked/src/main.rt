@@ -9,7 +9,7 @@ ghost use Rattle.std.specs.Prelude.{◌≡◌};
 ghost use Rattle.octets.specs.Area.{outcome};
 ghost use Rattle.worked.specs.Result.{number_of};
 
-use octets::{Access, Form, Written};
+use octets::{Access, Form, Unwritten, Written};
 use shown::{hexadecimal, number, text};
 use std::io;
 
@@ -27,9 +27,9 @@ fn result(written: Written) -> usize
     ensures { result ≡ number_of (outcome written) }
 {
     match written {
-        Written::Done(n) => n,
-        Written::Refused => 16,
-        Written::NoRoom => 300,
+        Ok(n) => n,
+        Err(Unwritten::Refused) => 16,
+        Err(Unwritten::NoRoom) => 300,
     }
 }
 
@@ -193,7 +193,7 @@ fn refused_slices(rt: &impl Print, area: &mut [u8; 2048]) -> io::Result<()> {
     let written = requests::write_read(&mut short, 16, plain, K);
     refusal(rt, "version 16 in an area of 12 octets", written)?;
     kept(rt, "area of 12 octets", &short)?;
-    requests::write_read(area, 1, plain, K);
+    let _ = requests::write_read(area, 1, plain, K);
     kept(rt, "area with a read", area)?;
     kept(rt, "octets past a read", octets::part(area, 13, 2048))
 }
