@@ -11,7 +11,9 @@ use lib.Dec.{ltb}
 use borrow.Author.Tests.{ltb-false}
 use Rattle.store.specs.Model.{State, Sound}
 use Rattle.records.specs.Turn.{Turned, more, answered, ended, turn}
-use Rattle.records.specs.Entry.{Word, wants-more, used-written, closed, refusal, word_of, over, Out, out_of, step_out, Stepped}
+use Rattle.records.specs.Entry.{Word, wants-more, used-written, closed, refusal, word_of, head_of, over, Out, out_of, step_out, Stepped}
+use Rattle.std.specs.Prelude.{Option}
+use Rattle.admission.specs.declared.Head.{Head}
 use Rattle.records.specs.declared.Outcome.{Outcome}
 use Rattle.records.proofs.Turns.{Means, turn-means}
 
@@ -39,11 +41,11 @@ module _ (u : State) (n : ℕ) (last : Bool) (s old : List ℕ) (at : ℕ) where
   by_turn false (answered v used line) e m h = (m.0, m.1, m.2, over-within old line at (omega (arith, ltb-false (length old) (at + 4108) e)) h)
   by_turn false (ended lines) e m h = over-within old lines at (omega (arith, ltb-false (length old) (at + 4108) e)) h
 
-  module _ (r : Outcome) (new table pool : List ℕ) (d : Stepped (step_out u n last s old at) r new table pool) where
+  module _ (h : Head) (r : Option Outcome) (new table pool : List ℕ) (d : Stepped (step_out u n last s old at) h r new table pool) where
     -- an area keeps its length
-    pub step-learns : length new ≡ length old → Learns n last (length s) at (length old) (word_of r.turn)
+    pub step-learns : length new ≡ length old → Learns n last (length s) at (length old) (word_of r)
     unfolding step_out
-    step-learns h = rw d.says (by_turn (ltb (length old) (at + 4108)) (turn u n last s) refl (turn-means u n s [] last) (sym (ap length d.area) ∙ h))
+    step-learns e = rw d.says (by_turn (ltb (length old) (at + 4108)) (turn u n last s) refl (turn-means u n s [] last) (sym (ap length d.area) ∙ e))
 
-    pub step-sound : Sound r.head table pool
+    pub step-sound : Sound (head_of h r) table pool
     step-sound = record { unit = (step_out u n last s old at).unit; shown = d.left }
