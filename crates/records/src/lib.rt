@@ -21,7 +21,7 @@ pub const LINE: usize = 4108;
 
 // ---- numbers and octets as text
 
-// No heap: the text of a number is made in the area itself, digit by digit, since `write!` needs a String there.
+// No heap, so no String; and `write!` on a slice promises how many octets it writes, not which, as `Wrote` does here.
 fn write_digit(out: &mut [u8], at: usize, n: u64) -> usize
     requires { (at < length out.old) × (n < 10) }
     ensures { Wrote out.old at ((48 + n) ∷ []) out.new result }
@@ -45,6 +45,7 @@ fn write_digits(out: &mut [u8], at: usize, places: usize, n: u64) -> usize
     write_digit(out, next, n % 10)
 }
 
+#[tactic(auto, unfolding(crate::specs::Text::hexadecimal_digit))]
 fn hexadecimal_digit(n: u8) -> u8
     requires { n < 16 }
     ensures { result ≡ hexadecimal_digit n }
@@ -56,9 +57,8 @@ fn write_pair(out: &mut [u8], at: usize, x: u8) -> usize
     requires { at + 2 ≤ length out.old }
     ensures { Wrote out.old at (pair x) out.new result }
 {
-    let i = at + 1;
     out[at] = hexadecimal_digit(x / 16);
-    out[i] = hexadecimal_digit(x % 16);
+    out[at + 1] = hexadecimal_digit(x % 16);
     at + 2
 }
 
@@ -125,7 +125,7 @@ enum Front<'a> {
     Whole { port: Port, request: &'a [u8] },
 }
 
-// The port of a record; 0 or 1.
+// The port of a record; 0 or 1. A function, as `From` would have to stand beside `Port` in octets.
 fn port_of(n: u8) -> Port
     ensures { result ≡ port_of n }
 {
@@ -133,6 +133,7 @@ fn port_of(n: u8) -> Port
 }
 
 // The record that begins with the first of the octets, so many records having been answered before.
+#[tactic(auto, using(crate::proofs::Fronts::looks))]
 fn look(answered: u32, s: &[u8]) -> Front<'_>
     ensures { (look_in s.now result ≡ front_after answered s.now) × LookPlace s.now result }
 {

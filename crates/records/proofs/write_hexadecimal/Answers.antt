@@ -1,7 +1,7 @@
 -- `write_hexadecimal`: before each turn the octets passed stand there in hexadecimal.
 use native.Mathlib.Omega.{arith}
 use lib.ListN.{take}
-use lib.Seq.{take_all, length-take-le}
+use lib.Seq.{length-take-le}
 use Rattle.octets.proofs.Areas.{wrote_none, wrote-length}
 use Rattle.records.specs.Text.{hexadecimal}
 use Rattle.records.proofs.Text.{length-hexadecimal, hexadecimal-step, wrote_on}
@@ -17,6 +17,3 @@ write_pair-next-requires c =
 
 pub loop-octet-preserved : goal.loop-octet-preserved
 loop-octet-preserved c = rw (hexadecimal-step c.args.s.now c.loop-octet.octet-index (omega arith)) (wrote_on c.loop-octet.invariant c.write_pair-next.ensures)
-
-pub returns : goal.returns
-returns c = rw (← take_all c.loop-octet.octet-index c.args.s.now (omega arith)) c.loop-octet.invariant
