@@ -195,6 +195,7 @@ pub struct Outcome {
 }
 
 // Answers a record.
+// The unit comes as head, table and memory, as `respond` takes it and the C interface lends it.
 fn answer(
     head: Head,
     table: &mut [u64],
@@ -261,6 +262,7 @@ fn take_turn(
 
 // Answers the record that the octets begin with, or closes the log, or asks for more octets. So many records were answered before, and `last` says that nothing comes
 // behind the octets. The line is written from a place of the area on. Where the area has no room for one (300), nothing is done and there is no outcome.
+// The area comes whole, with a place: `step_out` says also of the octets before the line that they stay.
 pub fn step(
     head: Head,
     table: &mut [u64],

@@ -10,21 +10,21 @@ use Rattle.records.proofs.take_turn.Goals as goal
 
 pub returns-in-Nothing : goal.returns-in-Nothing
 returns-in-Nothing c = λ u v.
-    turns-ended u c.args.answered c.args.last c.args.octets.now c.args.out.now c.args.at nothing (end_lines c.args.answered) c.in-Nothing.ensures.0 (rw c.if-last.true refl) (omega (arith, length-end c.args.answered, c.requires.room)) c.write_end.ensures v
+    turns-ended u c.args.answered c.args.last c.args.octets.now c.args.out.now c.args.at nothing (end_lines c.args.answered) c.in-Nothing.ensures.0 (grind arith) (omega (arith, length-end c.args.answered, c.requires.room)) c.write_end.ensures v
 
 pub returns-in-Cut : goal.returns-in-Cut
 returns-in-Cut c = λ u v.
-    turns-ended u c.args.answered c.args.last c.args.octets.now c.args.out.now c.args.at cut (stop_lines c.args.answered) c.in-Cut.ensures.0 (rw c.if-last-2.true refl) (omega (arith, length-stop c.args.answered, c.requires.room)) c.write_stop.ensures v
+    turns-ended u c.args.answered c.args.last c.args.octets.now c.args.out.now c.args.at cut (stop_lines c.args.answered) c.in-Cut.ensures.0 (grind arith) (omega (arith, length-stop c.args.answered, c.requires.room)) c.write_stop.ensures v
 
 pub returns-in-Wrong : goal.returns-in-Wrong
 returns-in-Wrong c = λ u v.
     turns-ended u c.args.answered c.args.last c.args.octets.now c.args.out.now c.args.at wrong (stop_lines c.args.answered) c.in-Wrong.ensures.0 refl (omega (arith, length-stop c.args.answered, c.requires.room)) c.write_stop-in-Wrong.ensures v
 
 pub returns-in-Nothing-2 : goal.returns-in-Nothing-2
-returns-in-Nothing-2 c = λ u v. turns-more u c.args.answered c.args.last c.args.octets.now c.args.out.now c.args.at nothing c.in-Nothing-2.ensures.0 (rw c.if-last.false refl) v
+returns-in-Nothing-2 c = λ u v. turns-more u c.args.answered c.args.last c.args.octets.now c.args.out.now c.args.at nothing c.in-Nothing-2.ensures.0 (grind arith) v
 
 pub returns-in-Cut-2 : goal.returns-in-Cut-2
-returns-in-Cut-2 c = λ u v. turns-more u c.args.answered c.args.last c.args.octets.now c.args.out.now c.args.at cut c.in-Cut-2.ensures.0 (rw c.if-last-2.false refl) v
+returns-in-Cut-2 c = λ u v. turns-more u c.args.answered c.args.last c.args.octets.now c.args.out.now c.args.at cut c.in-Cut-2.ensures.0 (grind arith) v
 
 pub returns-in-Whole : goal.returns-in-Whole
 returns-in-Whole c = λ u v.
