@@ -5,7 +5,7 @@ use mathlib.Core.Bool.{Bool, true}
 use mathlib.Core.List.{List, [], ◌∷◌}
 use native.Mathlib.Omega.{arith}
 use Rattle.std.proofs.Common.{rules}
-use lib.ListN.{length}
+use lib.ListN.{length, take}
 use borrow.Author.Tests.{le-ltb}
 use Rattle.octets.specs.Area.{Written, Outcome, done, outcome, written, described, Does}
 use Rattle.answers.specs.Answer.{Answer, answer_octets, answer_writable, answer_sent, accepted, answer}
@@ -19,7 +19,10 @@ use Rattle.store.specs.Steps.{Step}
 use Rattle.admission.specs.declared.Head.{Head}
 use Rattle.admission.specs.Denial.{number, Allowed, Denied}
 use Rattle.admission.specs.declared.Denial.{Denial}
-use Rattle.admission.specs.declared.Denial.TheVariants as v
+use Rattle.admission.specs.declared.Denial.TheVariants.{Version}
+use Rattle.admission.specs.contracts.Denial.{the_type}
+use denote.Enum.Bare.{sameb}
+use mir.Val.{bool_byte}
 use Rattle.octets.specs.Number.{bare}
 use Rattle.octets.specs.declared.Access.TheVariants.{Plain}
 use Rattle.octets.specs.declared.Form.{Form}
@@ -48,20 +51,11 @@ pub described-so : (b : Bool) (o : Outcome × List ℕ) (old : List ℕ) {new : 
 described-so b o old e d = rw e at d
 
 -- 4 carries the unit's version octet, and no other number carries anything
-pub supplement-four : (version : ℕ) (d : Denial) → d ≡ v.Version → version * 16 ∷ [] ≡ supplement_of version (number d)
-supplement-four version d e = rw e
+supplement-by : (version : ℕ) (d : Denial) → take (bool_byte (sameb the_type d Version)) (version * 16 ∷ []) ≡ supplement_of version (number d)
+supplement-by version d = search rules
 
-pub supplement-none : (version : ℕ) (d : Denial) → (d ≡ v.Version → ⊥) → [] ≡ supplement_of version (number d)
-supplement-none version v.Version e = absurd (e refl)
-supplement-none version v.Room e = refl
-supplement-none version v.Tag e = refl
-supplement-none version v.List e = refl
-supplement-none version v.Mode e = refl
-supplement-none version v.Size e = refl
-supplement-none version v.Password e = refl
-supplement-none version v.Port e = refl
-supplement-none version v.Option e = refl
-supplement-none version v.Octets e = refl
+pub supplement-is : (version n : ℕ) (d : Denial) (b : Bool) → n ≡ bool_byte b → b ≡ sameb the_type d Version → take n (version * 16 ∷ []) ≡ supplement_of version (number d)
+supplement-is version n d b e f = rw (e, f) (supplement-by version d)
 
 -- no number is over 16
 number-low : (d : Denial) → number d ≤ 16

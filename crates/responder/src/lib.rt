@@ -45,16 +45,14 @@ fn deny(answer: &mut [u8], version: u8, denial: Denial) -> Sent
     ensures { Sends (denial_of version (number denial)) result answer.old answer.new }
 {
     let octet = [version * 16];
-    if denial == Denial::Version {
-        return told(answers::write_denial(answer, version, denial.number(), &octet));
-    }
-    told(answers::write_denial(answer, version, denial.number(), &octet[..0]))
+    let n = usize::from(denial == Denial::Version);
+    told(answers::write_denial(answer, version, denial.number(), &octet[..n]))
 }
 
 // ---- the lines of the table before the body
 
 // Whether an operation type is in the table and its option is fitted.
-#[tactic(auto, using(std::proofs::lemmas::Bool::Decides::nat_tests), unfolding(crate::specs::Respond::fitted, requests::specs::Command::known))]
+#[tactic(auto, unfolding(crate::specs::Respond::fitted, requests::specs::Command::known))]
 fn is_fitted(allocation: bool, passwords: bool, kind: u8) -> bool
     ensures { result ≡ fitted allocation passwords kind }
 {
@@ -68,7 +66,7 @@ fn is_fitted(allocation: bool, passwords: bool, kind: u8) -> bool
 }
 
 // 16, 4, 16, 12: from the request's length to its operation type.
-#[tactic(auto, using(std::proofs::lemmas::Bool::Decides::nat_tests), unfolding(crate::specs::Respond::first_lines))]
+#[tactic(auto, unfolding(crate::specs::Respond::first_lines))]
 fn first_lines(head: Head, s: &[u8]) -> Result<(), Denial>
     ensures { (u : State) → head ≡ head_of u → line_of result ≡ first_lines u s.now }
 {
@@ -300,7 +298,8 @@ impl Information {
     }
 }
 
-// Tells of each tag of a list that is registered.
+// Tells of each tag of a list that is registered. In this loop and the two like it the list is known to read to its end:
+// no entry is missing.
 fn tell_each(head: Head, table: &[u64], s: &[u8], list: Entries, information: &mut Information)
     requires room { information.old.count + list.count ≤ 16 }
     requires list_ends { ListEnds (key Form.Plain) s.now list }
@@ -331,8 +330,8 @@ fn serve_resources(head: Head, table: &[u64], s: &[u8], list: Entries, answer: &
 
 // ---- bulk read
 
-// The entries chosen so far, the first `count` elements of each array: tags, and where their data stands in the memory; and the octets that they take.
-// The writer takes slices side by side.
+// The entries chosen so far, the first `count` elements of each array: tags, and where their data stands in the memory.
+// Together they take `size` octets. The writer takes slices side by side.
 #[derive(Clone, Copy)]
 struct Chosen {
     tags: [u64; 16],
@@ -485,7 +484,8 @@ impl Names {
     }
 }
 
-// Writes the entries of a list in turn and notes the names of those written. One that a single command would deny is passed over.
+// Writes the entries of a list in turn and notes the names of those written.
+// One that a single command would deny is passed over.
 fn write_each(
     head: Head,
     table: &mut [u64],
@@ -544,6 +544,7 @@ fn bulk_write(
 
 // ---- the entry
 
+// How many entries an operation's list has.
 fn entry_count(operation: Operation) -> usize
     ensures { result ≡ count_of operation }
 {
