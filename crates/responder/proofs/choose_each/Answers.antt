@@ -15,9 +15,6 @@ loop-init c = record {
 pub returns-in_default : goal.returns-in_default
 returns-in_default c = absurd (never-bad _ _ _ c.loop.invariant.walk c.loop-test.true c.in_default.ensures.says)
 
-pub choose-requires : goal.choose-requires
-choose-requires c = (omega (arith, c.loop.invariant.few), c.loop.invariant.small)
-
 pub loop-preserved : goal.loop-preserved
 loop-preserved c =
     let w = c.loop.invariant.walk in

@@ -11,29 +11,6 @@ pub returns-then-head-entry_count : goal.returns-then-head-entry_count
 returns-then-head-entry_count c = λ u v s.
     rw (performs-seven u _ _ _ s c.args.port c.args.s.now v c.args.operation (λ i. (c.type_inv.s i).fits) c.requires.operation_place (omega arith)) (denies u _ _ _ _ d.List s)
 
-pub serve_resources-requires : goal.serve_resources-requires
-serve_resources-requires c = record {
-  limits = (sound-version _ _ _ c.requires.sound, omega (arith, rw c.in-Resources.is at c.entry_count.ensures, sound-list _ _ _ c.requires.sound), c.requires.room);
-  list_ends = rw c.in-Resources.is at c.requires.operation_place;
-}
-
-pub serve_allocate-requires : goal.serve_allocate-requires
-serve_allocate-requires c = (sound-version _ _ _ c.requires.sound, c.requires.room)
-
-pub bulk_read-requires : goal.bulk_read-requires
-bulk_read-requires c = record {
-  sound = c.requires.sound;
-  room = (omega (arith, rw c.in-BulkRead.is at c.entry_count.ensures, sound-list _ _ _ c.requires.sound), c.requires.room);
-  list_ends = rw c.in-BulkRead.is at c.requires.operation_place;
-}
-
-pub bulk_write-requires : goal.bulk_write-requires
-bulk_write-requires c = record {
-  sound = c.requires.sound;
-  room = (omega (arith, rw c.in-BulkWrite.is at c.entry_count.ensures, sound-list _ _ _ c.requires.sound), c.requires.room);
-  list_ends = rw c.in-BulkWrite.is at c.requires.operation_place;
-}
-
 pub returns-in-Resources : goal.returns-in-Resources
 unfolding act resources_done
 returns-in-Resources c = λ u v s.

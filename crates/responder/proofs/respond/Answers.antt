@@ -7,12 +7,6 @@ use Rattle.responder.proofs.respond.Goals as goal
 pub returns-then-answer-head : goal.returns-then-answer-head
 returns-then-answer-head c = λ u s. silent-so u _ _ _ s c.args.port c.args.request.now _ _ _ _ _ c.if-answer-head.true refl refl s
 
-pub answered-requires : goal.answered-requires
-answered-requires c = record { sound = c.requires; room = omega (arith, sound-message _ _ _ c.requires) }
-
-pub deny-requires : goal.deny-requires
-deny-requires c = (sound-version _ _ _ c.requires, omega (arith, c.answered.auto.answer, sound-message _ _ _ c.requires))
-
 pub returns-in-Ok : goal.returns-in-Ok
 returns-in-Ok c = λ u s. replied-so u _ _ _ s c.args.port c.args.request.now _ _ _ _ _ c.if-answer-head.false (c.in-Ok.ensures u s)
 

@@ -3,9 +3,6 @@ use mathlib.Core.Path.{refl}
 use Rattle.responder.proofs.Chooses.{chooses-denied, chooses-over, chooses-one}
 use Rattle.responder.proofs.Chosen.choose.Goals as goal
 
-pub returns-in_default : goal.returns-in_default
-returns-in_default c = rw c.in_default.is (chooses-denied _ _ c.requires.1 _)
-
 pub returns-then-len-gt2041 : goal.returns-then-len-gt2041
 returns-then-len-gt2041 c = rw c.in-Ok.is (chooses-over _ _ c.requires.1 _ (omega arith) c.requires.0 (omega arith))
 
