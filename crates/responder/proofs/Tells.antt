@@ -1,5 +1,5 @@
 -- What is told of the tags of a list, entry by entry.
-use Prim.Native.Nat.{ℕ, ◌≤◌}
+use Prim.Native.Nat.{ℕ, ◌+◌, ◌<◌, ◌≤◌}
 use mathlib.Core.Path.{◌≡◌, refl, sym, ◌∙◌}
 use mathlib.Core.Bool.{true}
 use mathlib.Core.List.{List, [], ◌∷◌}
@@ -21,12 +21,22 @@ use Rattle.store.specs.Model.{State, Tag, Shows}
 use Rattle.store.specs.Steps.{registered}
 use Rattle.store.specs.Answers.{found}
 use Rattle.store.specs.declared.Found.{Found}
-use Rattle.responder.specs.Respond.{room_of, told_of, all_told, resources_done}
+use Rattle.responder.specs.Respond.{capped, room_of, told_of, all_told, resources_done}
 use Rattle.responder.specs.Entry.{Sent, sent_of, Sends, Gives, resources_in, found_told}
-use Rattle.std.specs.Prelude.{Option}
+use Rattle.std.specs.Prelude.{Option, Result, Ok, Err}
+use Rattle.std.specs.Result.{OkIff, result_unwrap_or}
+use borrow.Author.Tests.{lt-ltb, le-ltb}
+use native.Mathlib.Omega.{arith}
 use Rattle.responder.specs.declared.Information.{Information}
 use Rattle.responder.proofs.Sends.{sends, described-so, version-is}
 use Rattle.responder.proofs.Writable.{writable-short, Low, resources-fine}
+
+-- ---- a number in its field
+
+-- one that the field may not hold is told as the field's largest
+pub capped-is : {E : Type 0} (most n x : ℕ) (r : Result ℕ E) → OkIff r (n < most + 1) n → x ≡ result_unwrap_or r most → x ≡ capped most n
+capped-is most n x (Ok m) h e = rw (le-ltb most n (omega (arith, h.0))) (e ∙ h.1)
+capped-is most n x (Err d) h e = rw (lt-ltb most n (omega (arith, h))) e
 
 -- ---- the entries in turn
 
