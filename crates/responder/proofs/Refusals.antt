@@ -140,7 +140,7 @@ pub record Refused (u : State) (s : List ℕ) (d : Denial) (after : State) : Typ
 
 -- an answer is no denial
 answer-not : {m : Message b.Body} {d : Denial} → accepted m ≡ denied d → ⊥
-answer-not e = let z : ◌≡◌ {A = ℕ} 0 1 = cc in omega arith
+answer-not e = cc
 
 -- one denial has one status
 status-is : {d e : Denial} → denied d ≡ denied e → d.status ≡ e.status
@@ -160,7 +160,7 @@ refused-is u p s area d e = go (ltb area u.limits.message) e
   where
     go : (t : Bool) → (cond t (record { result = silent 300; unit = u }) (sent (handled u p s))).result ≡ replied (denied d)
         → Refused u s d (cond t (record { result = silent 300; unit = u }) (sent (handled u p s))).unit
-    go true q = let z : ◌≡◌ {A = ℕ} 0 1 = cc in absurd (omega arith)
+    go true q = cc
     go false q = said-refused u s (handled u p s) d (handled-said u p s) cc
 
 -- "A refusal changes no tag": a denial leaves the unit as it was

@@ -33,9 +33,9 @@ use Rattle.responder.proofs.Writable.{denial-writable, writable-short}
 
 -- what is told of a message that was written
 sent-done : (w : Written) (n : ℕ) → outcome w ≡ done n → sent_of w ≡ Some n
-sent-done (Ok m) n e = let q : m ≡ n = cc in rw q
-sent-done (Err Refused) n e = let z : ◌≡◌ {A = ℕ} 0 1 = cc in absurd (omega arith)
-sent-done (Err NoRoom) n e = let z : ◌≡◌ {A = ℕ} 0 1 = cc in absurd (omega arith)
+sent-done (Ok m) n e = cc
+sent-done (Err Refused) n e = cc
+sent-done (Err NoRoom) n e = cc
 
 -- an answer that may be written was written
 pub sends : (a : Answer) {w : Written} {r : Sent} {old new : List ℕ} → answer_writable a ≡ true → length (answer_octets a) ≤ 2048 → 2048 ≤ length old

@@ -7,7 +7,7 @@ use mathlib.Core.List.{List, [], ◌∷◌}
 use native.Mathlib.Omega.{arith}
 use lib.ListN.{length, get_or}
 use lib.Dec.{eqb, ltb}
-use borrow.Author.Tests.{eqb-true, ltb-true}
+use borrow.Author.Tests.{eqb-true, ltb-true, not-true}
 use Rattle.octets.specs.Number.{bare, version_part, fill_part}
 use Rattle.octets.specs.declared.Access.{Access}
 use Rattle.octets.specs.declared.Port.{Port}
@@ -135,10 +135,6 @@ early-status n e = among-passes (λ x. among x statuses) n early refl e
 -- and 5 is none of them
 pub early-five : (n : ℕ) → among n early ≡ true → eqb n 5 ≡ false
 early-five n e = not-true (eqb n 5) (among-passes (λ x. not (eqb x 5)) n early refl e)
-  where
-    not-true : (b : Bool) → not b ≡ true → b ≡ false
-    not-true true h = absurd (false-true h)
-    not-true false h = refl
 
 -- a line's number is one of them
 abbrev pub ListedLine : Line → Type 0
