@@ -3,6 +3,7 @@ use Prim.Native.Nat.{ℕ, ◌≤◌, ◌<◌}
 use mathlib.Core.Path.{◌≡◌, refl, sym, ap, ◌∙◌}
 use mathlib.Core.List.{List}
 use native.Mathlib.Omega.{arith}
+use Rattle.std.proofs.Common.{rules}
 use lib.ListN.{length}
 use borrow.Author.Tests.{lt-ltb, le-ltb}
 use Rattle.octets.specs.Frame.{Message}
@@ -33,8 +34,7 @@ use Rattle.responder.proofs.Sends.{version-is}
 -- the form is told by the operation type
 pub forms : (w : Form) → (form_at (kind_of c.allocate w) ≡ w) × (form_at (kind_of c.free w) ≡ w) × (form_at (kind_of c.read w) ≡ w) × (form_at (kind_of c.write w) ≡ w)
     × (form_at (kind_of c.bulk_read w) ≡ w) × (form_at (kind_of c.bulk_write w) ≡ w)
-forms f.Plain = (refl, refl, refl, refl, refl, refl)
-forms f.Password = (refl, refl, refl, refl, refl, refl)
+forms w = search rules
 
 -- a list has as many entries as its count says
 pub count-is : (s : List ℕ) (x : Operation) → Octets s → OperationPlace s x → entries_of (operation_body s x) ≡ count_of x

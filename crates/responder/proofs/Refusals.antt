@@ -4,7 +4,6 @@ use Prim.Native.Nat.{ℕ, ◌<◌}
 use mathlib.Core.Path.{◌≡◌, refl, sym, ap, ◌∙◌}
 use mathlib.Core.Bool.{Bool, true, false, cond}
 use mathlib.Core.List.{List, [], ◌∷◌}
-use native.Mathlib.Omega.{arith}
 use lib.ListN.{length}
 use lib.Dec.{eqb, ltb}
 use borrow.Author.Tests.{eq-eqb, lt-ltb, ltb-true}
@@ -195,7 +194,7 @@ module _ (u : State) (p : Port) (s : List ℕ) (area : ℕ) where
       go : (t : Bool) → ltb area u.limits.message ≡ t → (cond t (record { result = silent 300; unit = u }) (sent (handled u p s))).result ≡ silent n
           → (n ≡ 300) × (area < u.limits.message) × ((cond t (record { result = silent 300; unit = u }) (sent (handled u p s))).unit ≡ u)
       go true t q = let z : 300 ≡ n = cc in (sym z, ltb-true _ _ t, refl)
-      go false t q = let z : ◌≡◌ {A = ℕ} 0 1 = cc in absurd (omega arith)
+      go false t q = cc
 
   -- the only number that is given to the caller without an answer is 300
   pub silent-300 : (n : ℕ) → (respond u p s area).result ≡ silent n → n ≡ 300

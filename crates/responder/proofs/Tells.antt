@@ -1,6 +1,6 @@
 -- What is told of the tags of a list, entry by entry.
 use Prim.Native.Nat.{ℕ, ◌+◌, ◌<◌, ◌≤◌}
-use mathlib.Core.Path.{◌≡◌, refl, sym, ◌∙◌}
+use mathlib.Core.Path.{◌≡◌, sym, ◌∙◌}
 use mathlib.Core.Bool.{true}
 use mathlib.Core.List.{List, [], ◌∷◌}
 use lib.ListN.{length, take}
@@ -15,7 +15,7 @@ use Rattle.resources.specs.declared.Room.{Room}
 use Rattle.resources.proofs.Bodies.{are-alongside}
 use Rattle.answers.specs.Answer as b
 use Rattle.answers.specs.Answer.{answer_writable, resource_information_sent}
-use Rattle.rows.specs.Keyed.{Maybe, nowhere, here}
+use Rattle.rows.specs.Keyed.{Maybe}
 use Rattle.admission.specs.declared.Head.{Head}
 use Rattle.store.specs.Model.{State, Tag, Shows}
 use Rattle.store.specs.Steps.{registered}
@@ -27,6 +27,7 @@ use Rattle.std.specs.Prelude.{Option, Result, Ok, Err}
 use Rattle.std.specs.Result.{OkIff, result_unwrap_or}
 use borrow.Author.Tests.{lt-ltb, le-ltb}
 use native.Mathlib.Omega.{arith}
+use Rattle.std.proofs.Common.{rules}
 use Rattle.responder.specs.declared.Information.{Information}
 use Rattle.responder.proofs.Sends.{sends, described-so, version-is}
 use Rattle.responder.proofs.Writable.{writable-short, Low, resources-fine}
@@ -42,8 +43,7 @@ capped-is most n x (Err d) h e = rw (lt-ltb most n (omega (arith, h))) e
 
 -- what is found of a tag is told of it
 found-told : (m : Maybe Tag) (rs : List Resource) → found_told (found m) rs ≡ told_of m rs
-found-told nowhere rs = refl
-found-told (here t) rs = refl
+found-told m rs = search rules
 
 module _ (u : State) (rs goal : List Resource) where
   -- an entry more: what is left leads where the whole list leads

@@ -21,7 +21,7 @@ use Rattle.octets.specs.declared.Fault.TheVariants.{Other}
 use Rattle.octets.specs.declared.Form.{Form}
 use Rattle.octets.specs.declared.Form.TheVariants as f
 use Rattle.octets.specs.declared.Port.{Port}
-use Rattle.octets.proofs.Places.{both, both-are, false-true, bad-ok}
+use Rattle.octets.proofs.Places.{both, both-are, bad-ok}
 use Rattle.octets.proofs.Lengths.{encode-some}
 use Rattle.tags.specs.Entry.{Keyed, Held, lock, key, memory}
 use Rattle.tags.proofs.Entries.{length-key, length-memory, key_fits, memory-fits}
@@ -39,7 +39,6 @@ use Rattle.answers.proofs.Denials.{denial-fit}
 use Rattle.answers.proofs.Theorems.{answer-written-reads}
 use Rattle.admission.specs.Mode.{mode_code, code_mode, code_spf}
 use Rattle.admission.specs.declared.Mode.{Mode}
-use Rattle.admission.specs.declared.Mode.TheVariants.{Both, ReadOnly, WriteOnly}
 use Rattle.admission.specs.Denial.{Verdict, Allowed, Denied}
 use Rattle.rows.specs.Keyed.{Maybe, nowhere, here}
 use Rattle.rows.proofs.Keys

@@ -3,8 +3,7 @@ use native.Mathlib.Omega.{arith}
 use Rattle.octets.specs.declared.Form.TheVariants as f
 use Rattle.admission.specs.declared.Denial.TheVariants as d
 use Rattle.responder.specs.Respond.{act, resources_done, bulk_read_done}
-use Rattle.responder.proofs.Sends.{sound-version}
-use Rattle.responder.proofs.Performs.{forms, sound-list, denies, performs-seven, performs}
+use Rattle.responder.proofs.Performs.{forms, denies, performs-seven, performs}
 use Rattle.responder.proofs.perform.Goals as goal
 
 pub returns-then-head-entry_count : goal.returns-then-head-entry_count

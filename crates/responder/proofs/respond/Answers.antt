@@ -1,7 +1,5 @@
 use mathlib.Core.Path.{refl}
-use native.Mathlib.Omega.{arith}
-use Rattle.responder.proofs.Sends.{sound-version}
-use Rattle.responder.proofs.Performs.{sound-message, denied, silent-so, replied-so}
+use Rattle.responder.proofs.Performs.{denied, silent-so, replied-so}
 use Rattle.responder.proofs.respond.Goals as goal
 
 pub returns-then-answer-head : goal.returns-then-answer-head

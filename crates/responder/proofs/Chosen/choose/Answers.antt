@@ -1,6 +1,6 @@
 use native.Mathlib.Omega.{arith}
 use mathlib.Core.Path.{refl}
-use Rattle.responder.proofs.Chooses.{chooses-denied, chooses-over, chooses-one}
+use Rattle.responder.proofs.Chooses.{chooses-over, chooses-one}
 use Rattle.responder.proofs.Chosen.choose.Goals as goal
 
 pub returns-then-len-gt2041 : goal.returns-then-len-gt2041
