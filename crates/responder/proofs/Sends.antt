@@ -51,10 +51,12 @@ pub described-so : (b : Bool) (o : Outcome × List ℕ) (old : List ℕ) {new : 
 described-so b o old e d = rw e at d
 
 -- 4 carries the unit's version octet, and no other number carries anything
-supplement-by : (version : ℕ) (d : Denial) → take (bool_byte (sameb the_type d Version)) (version * 16 ∷ []) ≡ supplement_of version (number d)
+supplement-by : (version : ℕ) (d : Denial) → take (bool_byte (sameb the_type d Version))
+    (version * 16 ∷ []) ≡ supplement_of version (number d)
 supplement-by version d = search rules
 
-pub supplement-is : (version n : ℕ) (d : Denial) (b : Bool) → n ≡ bool_byte b → b ≡ sameb the_type d Version → take n (version * 16 ∷ []) ≡ supplement_of version (number d)
+pub supplement-is : (version n : ℕ) (d : Denial) (b : Bool) → n ≡ bool_byte b → b ≡ sameb the_type d Version
+    → take n (version * 16 ∷ []) ≡ supplement_of version (number d)
 supplement-is version n d b e f = rw (e, f) (supplement-by version d)
 
 -- no number is over 16
@@ -62,8 +64,10 @@ number-low : (d : Denial) → number d ≤ 16
 number-low d = search rules
 
 -- a denial, with the supplement that its number has
-pub denial-sends : (version n : ℕ) (d : Denial) (old new sup : List ℕ) {x : Written} {r : Sent} → version ≤ 15 → n ≡ number d → sup ≡ supplement_of version (number d) → 2048 ≤ length old
-    → Does (denial_sent (record { version = version; status = n; supplement = sup }) old) x new → r ≡ sent_of x → Sends (denial version (number d)) r old new
+pub denial-sends : (version n : ℕ) (d : Denial) (old new sup : List ℕ) {x : Written} {r : Sent} → version ≤ 15
+    → n ≡ number d → sup ≡ supplement_of version (number d) → 2048 ≤ length old
+    → Does (denial_sent (record { version = version; status = n; supplement = sup }) old) x new → r ≡ sent_of x
+    → Sends (denial version (number d)) r old new
 denial-sends version n d old new sup h l e k y t =
     let a = denial-writable version (number d) h (omega (arith, number-low d)) in
     sends (denial version (number d)) a (writable-short (denial version (number d)) a) k (rw (l, e) at y) t
@@ -76,18 +80,25 @@ version-is s = ap (λ (k : Head). k.version) s.head
 
 module _ (u : State) (h : Head) (table pool : List ℕ) (s : Shows u h table pool) (w : Form) where
   -- denied, and not told yet
-  pub step-denied : (body : b.Body) (step : Step) (e : Denial) (old after left : List ℕ) → Did step (Denied (number e)) h after left
+  pub step-denied : (body : b.Body) (step : Step) (e : Denial) (old after left : List ℕ)
+      → Did step (Denied (number e)) h after left
       → Denies (stepped u w body step) h e old old after left
-  step-denied body step e old after left d = rw (← d.answered) (record { says = rw (version-is s); area = refl; left = d.left })
+  step-denied body step e old after left d = rw (← d.answered)
+      (record { says = rw (version-is s); area = refl; left = d.left })
 
   -- done, and so told: by the form of the command, its tag with the six ignored bits zero
-  pub step-done : (B : Keyed → b.Body) (x : ℕ) (step : Step) (g : Head) (old new after left : List ℕ) (form : Form) (n : ℕ) (z : Written) (r : Sent)
-      → Did step Allowed g after left → answer_writable (accepted (answer h.version w (B (named x)))) ≡ true → 2048 ≤ length old → form ≡ w → n ≡ bare x
+  pub step-done : (B : Keyed → b.Body) (x : ℕ) (step : Step) (g : Head) (old new after left : List ℕ) (form : Form)
+      (n : ℕ) (z : Written) (r : Sent)
+      → Did step Allowed g after left → answer_writable (accepted (answer h.version w (B (named x)))) ≡ true
+      → 2048 ≤ length old → form ≡ w → n ≡ bare x
       → Does (answer_sent (accepted (answer h.version form (B (n, Plain)))) old) z new → r ≡ sent_of z
       → Serves (stepped u w (B (named x)) step) (record { head = g; sent = r }) old new after left
   step-done B x step g old new after left form n z r d f k ef en y t =
       let a : Answer = accepted (answer h.version w (B (named x))) in
-      rw (← d.answered) (record { sends = rw (version-is s) at (sends a f (writable-short a f) k (rw (ef, en) at y) t); left = d.left })
+      rw (← d.answered) (record {
+        sends = rw (version-is s) at (sends a f (writable-short a f) k (rw (ef, en) at y) t);
+        left = d.left;
+      })
 
 -- the version of a sound unit
 pub sound-version : (h : Head) (table pool : List ℕ) → Sound h table pool → h.version ≤ 15

@@ -23,11 +23,13 @@ loop-preserved c =
       few = omega (arith, c.choose.ensures.few, c.loop.invariant.few);
       small = c.choose.ensures.small;
       walk = walk-next _ _ _ w c.loop-test.true _ e.says e.place;
-      leads = λ u pool s k. going_next u _ _ _ _ _ _ _ _ _ _ (left-on _ _ _ w c.loop-test.true _ e.says) (c.read-held.ensures u pool s) c.choose.ensures (c.loop.invariant.leads u pool s k);
+      leads = λ u pool s k. going_next u _ _ _ _ _ _ _ _ _ _ (left-on _ _ _ w c.loop-test.true _ e.says)
+          (c.read-held.ensures u pool s) c.choose.ensures (c.loop.invariant.leads u pool s k);
     }
 
 pub returns : goal.returns
 returns c = record {
   few = omega (arith, c.loop.invariant.few);
-  chosen = λ u pool s k. going-all u _ _ _ _ _ (left-none _ _ _ c.loop.invariant.walk c.loop-test.false) (c.loop.invariant.leads u pool s k);
+  chosen = λ u pool s k. going-all u _ _ _ _ _ (left-none _ _ _ c.loop.invariant.walk c.loop-test.false)
+      (c.loop.invariant.leads u pool s k);
 }
