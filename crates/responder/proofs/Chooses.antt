@@ -67,7 +67,8 @@ module _ (hs : List Held) (x : ℕ) (xs : List ℕ) where
 
 -- as many as are counted
 picked-length : (c : Chosen) (pool : List ℕ) → c.count ≤ length c.tags → length (picked c pool) ≡ c.count
-picked-length c pool h = length-listed (held_at f.Plain (take c.count c.tags) [] (take c.count c.starts) (take c.count c.lengths) pool) (length (take c.count c.tags)) ∙ length-take-le c.count c.tags h
+picked-length c pool h = length-listed (held_at f.Plain (take c.count c.tags) [] (take c.count c.starts)
+    (take c.count c.lengths) pool) (length (take c.count c.tags)) ∙ length-take-le c.count c.tags h
 
 module _ (x : ℕ) (c : Chosen) (small : c.size ≤ 2041) where
   -- a single command would be denied
@@ -87,8 +88,15 @@ module _ (x : ℕ) (c : Chosen) (small : c.size ≤ 2041) where
     }
 
     -- there is
-    pub chooses-one : (y e z : ℕ) → y ≡ bare x → e ≡ length (encode_length p.len) → length c.starts ≡ 16 → length c.lengths ≡ 16 → z ≡ c.size + 8 + e + p.len → z ≤ 2041
-        → Chooses (Ok p) x c (record { tags = set c.tags c.count y; starts = set c.starts c.count p.start; lengths = set c.lengths c.count p.len; count = c.count + 1; size = z })
+    pub chooses-one : (y e z : ℕ) → y ≡ bare x → e ≡ length (encode_length p.len) → length c.starts ≡ 16
+        → length c.lengths ≡ 16 → z ≡ c.size + 8 + e + p.len → z ≤ 2041
+        → Chooses (Ok p) x c (record {
+          tags = set c.tags c.count y;
+          starts = set c.starts c.count p.start;
+          lengths = set c.lengths c.count p.len;
+          count = c.count + 1;
+          size = z;
+        })
     chooses-one y e z ey ee i j ez r =
         let a : c.count < length c.tags = omega arith in
         let b : c.count < length c.starts = omega arith in
@@ -100,9 +108,14 @@ module _ (x : ℕ) (c : Chosen) (small : c.size ≤ 2041) where
               let hs = picked c pool in
               let n = picked-length c pool (omega arith) in
               let m : length (within pool p) ≡ p.len = span-length pool p q.0 in
-              let g : picked (with_more c pool y p z a b d) pool ≡ hs ++ (named x, within pool p) ∷ [] = rw (← ey) (picked_more c pool y p z a b d) in
-              let w : length (put_all (memory f.Plain) hs) + 8 + length (encode_length (length (within pool p))) + length (within pool p) ≡ z = rw (m, k.size, ez, ← ee) in (
-                record { inside = inside-more c pool y p z a b d k.inside q.0; size = rw g (put-more hs x (within pool p) ∙ w) },
+              let g : picked (with_more c pool y p z a b d) pool ≡ hs ++ (named x, within pool p) ∷ [] = rw (← ey)
+              (picked_more c pool y p z a b d) in
+              let w : length (put_all (memory f.Plain) hs) + 8 + length
+              (encode_length (length (within pool p))) + length (within pool p) ≡ z = rw (m, k.size, ez, ← ee) in (
+                record {
+                  inside = inside-more c pool y p z a b d k.inside q.0;
+                  size = rw g (put-more hs x (within pool p) ∙ w);
+                },
                 g ∙ sym (given-room hs x (within pool p) (omega arith) (omega (arith, w))),
               );
         }
@@ -110,13 +123,15 @@ module _ (x : ℕ) (c : Chosen) (small : c.size ≤ 2041) where
 -- ---- the entries in turn
 
 -- what was chosen so far lies in the memory, and what is left leads to the goal
-pub record Going (u : State) (p : Port) (pool : List ℕ) (goal : List Held) (left : List Keyed) (c : Chosen) : Type 0 where
-  pub holds : Picked c pool
-  pub rest : all_reads u p (picked c pool) left ≡ goal
+pub record Going (u : State) (p : Port) (pool : List ℕ) (goal : List Held) (left : List Keyed) (c : Chosen) : Type 0
+  where
+    pub holds : Picked c pool
+    pub rest : all_reads u p (picked c pool) left ≡ goal
 
 module _ (u : State) (p : Port) (pool : List ℕ) (goal : List Held) (left : List Keyed) (c : Chosen) where
   -- an entry more
-  pub going_next : (x : ℕ) (a : Access) (now : List Keyed) (b : Chosen) (r : Result Span Denial) → now ≡ (x, a) ∷ left → ReadOf u x p a pool r
+  pub going_next : (x : ℕ) (a : Access) (now : List Keyed) (b : Chosen) (r : Result Span Denial) → now ≡ (x, a) ∷ left
+      → ReadOf u x p a pool r
       → Chooses r x b c → Going u p pool goal now b → Going u p pool goal left c
   unfolding all_reads
   going_next x a now b r e d s g =
@@ -132,17 +147,26 @@ module _ (u : State) (p : Port) (pool : List ℕ) (goal : List Held) (left : Lis
 -- ---- the answer
 
 -- the first elements of the arrays, written as the answer that gives them
-pub chosen-given : (c : Chosen) (version : ℕ) (form : Form) (pool old : List ℕ) {w : Written} {new : List ℕ} → c.count ≤ length c.tags → c.count ≤ length c.starts → c.count ≤ length c.lengths
-    → Does (bulk_read_sent form version (take c.count c.tags) (take c.count c.starts) (take c.count c.lengths) pool old) w new → Picked c pool
+pub chosen-given : (c : Chosen) (version : ℕ) (form : Form) (pool old : List ℕ) {w : Written} {new : List ℕ}
+    → c.count ≤ length c.tags → c.count ≤ length c.starts → c.count ≤ length c.lengths
+    → Does (bulk_read_sent form version (take c.count c.tags) (take c.count c.starts) (take c.count c.lengths) pool
+    old) w new → Picked c pool
     → Gives version form (b.bulk_read (picked c pool)) w old new
 unfolding belong agrees
 chosen-given c version form pool old et es el d i =
     described-so _ _ old
-    (rw (length-take-le c.count c.tags et, eq-eqb _ _ (length-take-le c.count c.starts es), eq-eqb _ _ (length-take-le c.count c.lengths el), i.inside))
+    (rw (
+      length-take-le c.count c.tags et,
+      eq-eqb _ _ (length-take-le c.count c.starts es),
+      eq-eqb _ _ (length-take-le c.count c.lengths el),
+      i.inside,
+    ))
     d
 
 -- it answers the list
-pub bulk-read-sent : (u : State) (h : Head) (table pool : List ℕ) → Shows u h table pool → (p : Port) (form : Form) (ks : List Keyed) → Low ks → length ks ≤ 16 → (hs : List Held) {w : Written} {r : Sent} {old new : List ℕ}
+pub bulk-read-sent : (u : State) (h : Head) (table pool : List ℕ) → Shows u h table pool
+    → (p : Port) (form : Form) (ks : List Keyed) → Low ks → length ks ≤ 16
+    → (hs : List Held) {w : Written} {r : Sent} {old new : List ℕ}
     → hs ≡ all_reads u p [] ks → 2048 ≤ length old → Gives h.version form (b.bulk_read hs) w old new → r ≡ sent_of w
     → Sends (bulk_read_done u p form ks).reply r old new
 unfolding bulk_read_done

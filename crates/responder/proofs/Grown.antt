@@ -71,42 +71,75 @@ names-more c x h =
 -- ---- what is told of tags
 
 -- what is told of one tag more
-pub resources-more : (c : Information) (r : Resource) → c.count < length c.tags → c.count < length c.modes → c.count < length c.held → c.count < length c.sizes
-    → resources_in (record { tags = set c.tags c.count r.tag; modes = set c.modes c.count r.mode; held = set c.held c.count r.held; sizes = set c.sizes c.count r.size; count = c.count + 1 })
+pub resources-more : (c : Information) (r : Resource) → c.count < length c.tags → c.count < length c.modes
+    → c.count < length c.held → c.count < length c.sizes
+    → resources_in (record {
+      tags = set c.tags c.count r.tag;
+      modes = set c.modes c.count r.mode;
+      held = set c.held c.count r.held;
+      sizes = set c.sizes c.count r.size;
+      count = c.count + 1;
+    })
     ≡ resources_in c ++ r ∷ []
 resources-more c r a b d e =
     let k = c.count in
     rw (add-one k, grown-length c.tags k r.tag a, length-take-le k c.tags (omega arith))
-    (listed_more (resource_at (take (suc k) (set c.tags k r.tag)) (take (suc k) (set c.modes k r.mode)) (take (suc k) (set c.held k r.held)) (take (suc k) (set c.sizes k r.size)))
+    (listed_more (resource_at (take (suc k) (set c.tags k r.tag)) (take (suc k) (set c.modes k r.mode))
+    (take (suc k) (set c.held k r.held)) (take (suc k) (set c.sizes k r.size)))
     (resource_at (take k c.tags) (take k c.modes) (take k c.held) (take k c.sizes)) k _
-    (λ i j. rw (grown-before c.tags k r.tag a i j, grown-before c.modes k r.mode b i j, grown-before c.held k r.held d i j, grown-before c.sizes k r.size e i j))
-    (rw (grown-last c.tags k r.tag a, grown-last c.modes k r.mode b, grown-last c.held k r.held d, grown-last c.sizes k r.size e)))
+    (λ i j. rw (
+      grown-before c.tags k r.tag a i j,
+      grown-before c.modes k r.mode b i j,
+      grown-before c.held k r.held d i j,
+      grown-before c.sizes k r.size e i j,
+    ))
+    (rw (
+      grown-last c.tags k r.tag a,
+      grown-last c.modes k r.mode b,
+      grown-last c.held k r.held d,
+      grown-last c.sizes k r.size e,
+    )))
 
 -- ---- data in the memory
 
-module _ (c : Chosen) (pool : List ℕ) (x : ℕ) (i : Span) (z : ℕ) (g : c.count < length c.tags) (h : c.count < length c.starts) (j : c.count < length c.lengths) where
+module _ (c : Chosen) (pool : List ℕ) (x : ℕ) (i : Span) (z : ℕ) (g : c.count < length c.tags)
+    (h : c.count < length c.starts) (j : c.count < length c.lengths) where
   -- the chosen entries and one more
   abbrev pub with_more : Chosen
-  with_more = record { tags = set c.tags c.count x; starts = set c.starts c.count i.start; lengths = set c.lengths c.count i.len; count = c.count + 1; size = z }
+  with_more = record {
+    tags = set c.tags c.count x;
+    starts = set c.starts c.count i.start;
+    lengths = set c.lengths c.count i.len;
+    count = c.count + 1;
+    size = z;
+  }
 
   -- what they describe
   pub picked_more : picked with_more pool ≡ picked c pool ++ ((x, Plain), within pool i) ∷ []
   picked_more =
       let k = c.count in
       rw (add-one k, grown-length c.tags k x g, length-take-le k c.tags (omega arith))
-      (listed_more (held_at f.Plain (take (suc k) (set c.tags k x)) [] (take (suc k) (set c.starts k i.start)) (take (suc k) (set c.lengths k i.len)) pool)
+      (listed_more (held_at f.Plain (take (suc k) (set c.tags k x)) [] (take (suc k) (set c.starts k i.start))
+      (take (suc k) (set c.lengths k i.len)) pool)
       (held_at f.Plain (take k c.tags) [] (take k c.starts) (take k c.lengths) pool) k _
-      (λ y b. rw (grown-before c.tags k x g y b, grown-before c.starts k i.start h y b, grown-before c.lengths k i.len j y b))
+      (λ y b. rw (
+        grown-before c.tags k x g y b,
+        grown-before c.starts k i.start h y b,
+        grown-before c.lengths k i.len j y b,
+      ))
       (rw (grown-last c.tags k x g, grown-last c.starts k i.start h, grown-last c.lengths k i.len j)))
 
   -- it lies within the memory too
-  pub inside-more : every (inside_at (take c.count c.starts) (take c.count c.lengths) pool) c.count ≡ true → i.start + i.len ≤ length pool
-      → every (inside_at (take with_more.count with_more.starts) (take with_more.count with_more.lengths) pool) with_more.count ≡ true
+  pub inside-more : every (inside_at (take c.count c.starts) (take c.count c.lengths) pool) c.count ≡ true
+      → i.start + i.len ≤ length pool
+      → every (inside_at (take with_more.count with_more.starts) (take with_more.count with_more.lengths) pool)
+      with_more.count ≡ true
   inside-more e l =
       let k = c.count in
       let p = inside_at (take (suc k) (set c.starts k i.start)) (take (suc k) (set c.lengths k i.len)) pool in
       let q = inside_at (take k c.starts) (take k c.lengths) pool in
       rw (add-one k)
       (both-are (every p k) (p k)
-      (every-is p k (λ y b. rw (grown-before c.starts k i.start h y b, grown-before c.lengths k i.len j y b) (every-at q k y e b)))
+      (every-is p k (λ y b. rw (grown-before c.starts k i.start h y b, grown-before c.lengths k i.len j y b)
+      (every-at q k y e b)))
       (rw (grown-last c.starts k i.start h, grown-last c.lengths k i.len j) (le-leb (i.start + i.len) (length pool) l)))

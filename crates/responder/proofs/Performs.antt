@@ -3,6 +3,7 @@ use Prim.Native.Nat.{ℕ, ◌≤◌, ◌<◌}
 use mathlib.Core.Path.{◌≡◌, refl, sym, ap, ◌∙◌}
 use mathlib.Core.List.{List}
 use native.Mathlib.Omega.{arith}
+use Rattle.std.proofs.Common.{rules}
 use lib.ListN.{length}
 use borrow.Author.Tests.{lt-ltb, le-ltb}
 use Rattle.octets.specs.Frame.{Message}
@@ -33,8 +34,7 @@ use Rattle.responder.proofs.Sends.{version-is}
 -- the form is told by the operation type
 pub forms : (w : Form) → (form_at (kind_of c.allocate w) ≡ w) × (form_at (kind_of c.free w) ≡ w) × (form_at (kind_of c.read w) ≡ w) × (form_at (kind_of c.write w) ≡ w)
     × (form_at (kind_of c.bulk_read w) ≡ w) × (form_at (kind_of c.bulk_write w) ≡ w)
-forms f.Plain = (refl, refl, refl, refl, refl, refl)
-forms f.Password = (refl, refl, refl, refl, refl, refl)
+forms w = search rules
 
 -- a list has as many entries as its count says
 pub count-is : (s : List ℕ) (x : Operation) → Octets s → OperationPlace s x → entries_of (operation_body s x) ≡ count_of x
@@ -55,15 +55,18 @@ pub sound-message : (h : Head) (table pool : List ℕ) → Sound h table pool �
 sound-message h table pool s = ap (λ (g : Head). g.limits.message) s.shown.head ∙ s.shown.valid.shared.message
 
 -- a denial that is not written yet
-pub denies : (u : State) (h : Head) (table pool old : List ℕ) (e : Denial) → Shows u h table pool → Denies (deny u (code.number e)) h e old old table pool
+pub denies : (u : State) (h : Head) (table pool old : List ℕ) (e : Denial) → Shows u h table pool
+    → Denies (deny u (code.number e)) h e old old table pool
 denies u h table pool old e s = record { says = rw (version-is s); area = refl; left = s }
 
 -- and is written
-pub denied : (d : Done) (h : Head) (e : Denial) (old mid new table pool : List ℕ) (x : Sent) → Denies d h e old mid table pool → Sends (denial h.version (code.number e)) x mid new
+pub denied : (d : Done) (h : Head) (e : Denial) (old mid new table pool : List ℕ) (x : Sent)
+    → Denies d h e old mid table pool → Sends (denial h.version (code.number e)) x mid new
     → Serves d (record { head = h; sent = x }) old new table pool
 denied d h e old mid new table pool x n y = record { sends = rw (← n.says, n.area) at y; left = n.left }
 
-module _ (u : State) (h : Head) (table pool : List ℕ) (d : Shows u h table pool) (p : Port) (s : List ℕ) (v : ℕ) (x : Operation) (o : Octets s) (q : OperationPlace s x) where
+module _ (u : State) (h : Head) (table pool : List ℕ) (d : Shows u h table pool) (p : Port) (s : List ℕ) (v : ℕ)
+    (x : Operation) (o : Octets s) (q : OperationPlace s x) where
   -- the request that an operation was read from
   abbrev asked : Told (Message Body)
   asked = message (record { version = v; kind = operation_kind x; body = operation_body s x })
@@ -73,11 +76,17 @@ module _ (u : State) (h : Head) (table pool : List ℕ) (d : Shows u h table poo
 
   -- too many entries
   pub performs-seven : h.limits.list < count_of x → served u p asked ≡ deny u 7
-  performs-seven l = rw (lt-ltb u.limits.list (entries_of (operation_body s x)) (omega (arith, list-limit, count-is s x o q)))
+  performs-seven l = rw (lt-ltb u.limits.list (entries_of (operation_body s x))
+      (omega (arith, list-limit, count-is s x o q)))
 
   -- an operation that is taken
-  pub performs : (z : Operation) (w : Form) → x ≡ z → count_of x ≤ h.limits.list → form_at (operation_kind z) ≡ w → served u p asked ≡ act u p w (operation_body s z)
-  performs z w g l e = rw (le-ltb u.limits.list (entries_of (operation_body s x)) (omega (arith, list-limit, count-is s x o q)), g, e)
+  pub performs : (z : Operation) (w : Form) → x ≡ z → count_of x ≤ h.limits.list → form_at (operation_kind z) ≡ w
+      → served u p asked ≡ act u p w (operation_body s z)
+  performs z w g l e = rw (
+    le-ltb u.limits.list (entries_of (operation_body s x)) (omega (arith, list-limit, count-is s x o q)),
+    g,
+    e,
+  )
 
 -- ---- the lines before the body
 
@@ -96,13 +105,15 @@ module _ (u : State) (p : Port) (s : List ℕ) where
 
   -- it decodes
   pub decoded : (r : Request) → none ≡ first_lines u s → Understood s (Ok r)
-      → handled u p s ≡ served u p (message (record { version = r.version; kind = operation_kind r.operation; body = operation_body s r.operation }))
+      → handled u p s ≡ served u p (message (record
+      { version = r.version; kind = operation_kind r.operation; body = operation_body s r.operation }))
   unfolding handled
   decoded r q g = rw (← q, ← g.says)
 
 -- ---- the entry
 
-module _ (u : State) (h : Head) (table₀ pool₀ : List ℕ) (x : Shows u h table₀ pool₀) (p : Port) (s old : List ℕ) (y : Reply) (new table pool : List ℕ) where
+module _ (u : State) (h : Head) (table₀ pool₀ : List ℕ) (x : Shows u h table₀ pool₀) (p : Port) (s old : List ℕ)
+    (y : Reply) (new table pool : List ℕ) where
   message-limit : h.limits.message ≡ u.limits.message
   message-limit = ap (λ (g : Head). g.limits.message) x.head
 
@@ -110,9 +121,12 @@ module _ (u : State) (h : Head) (table₀ pool₀ : List ℕ) (x : Shows u h tab
   pub silent-so : length old < h.limits.message → y.sent ≡ None → new ≡ old → Shows u y.head table pool
       → Responded (respond u p s (length old)) y old new table pool
   unfolding respond
-  silent-so l q n d = rw (lt-ltb (length old) u.limits.message (omega (arith, message-limit))) (record { says = ap word_of q; area = n; left = d })
+  silent-so l q n d = rw (lt-ltb (length old) u.limits.message (omega (arith, message-limit)))
+      (record { says = ap word_of q; area = n; left = d })
 
   -- any other
-  pub replied-so : h.limits.message ≤ length old → Serves (handled u p s) y old new table pool → Responded (respond u p s (length old)) y old new table pool
+  pub replied-so : h.limits.message ≤ length old → Serves (handled u p s) y old new table pool
+      → Responded (respond u p s (length old)) y old new table pool
   unfolding respond
-  replied-so l d = rw (le-ltb (length old) u.limits.message (omega (arith, message-limit))) (record { says = ap word_of d.sends.says; area = d.sends.area; left = d.left })
+  replied-so l d = rw (le-ltb (length old) u.limits.message (omega (arith, message-limit)))
+      (record { says = ap word_of d.sends.says; area = d.sends.area; left = d.left })

@@ -88,7 +88,8 @@ pub record Serves (d : Done) (r : Reply) (old new table pool : List ℕ) : Type 
   pub sends : Sends d.reply r.sent old new
   pub left : Shows d.unit r.head table pool
 
--- a denial that is not written yet: the reply by its number, the area as it was, and head, table and memory for the unit afterwards
+-- a denial that is not written yet: the reply by its number, the area as it was, and head, table and memory for the
+-- unit afterwards
 pub record Denies (d : Done) (head : Head) (e : Denial) (old new table pool : List ℕ) : Type 0 where
   pub says : d.reply ≡ denial head.version (v.number e)
   pub area : new ≡ old

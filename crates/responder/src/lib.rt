@@ -45,16 +45,14 @@ fn deny(answer: &mut [u8], version: u8, denial: Denial) -> Sent
     ensures { Sends (denial_of version (number denial)) result answer.old answer.new }
 {
     let octet = [version * 16];
-    if denial == Denial::Version {
-        return told(answers::write_denial(answer, version, denial.number(), &octet));
-    }
-    told(answers::write_denial(answer, version, denial.number(), &octet[..0]))
+    let n = usize::from(denial == Denial::Version);
+    told(answers::write_denial(answer, version, denial.number(), &octet[..n]))
 }
 
 // ---- the lines of the table before the body
 
 // Whether an operation type is in the table and its option is fitted.
-#[tactic(auto, using(std::proofs::lemmas::Bool::Decides::nat_tests), unfolding(crate::specs::Respond::fitted, requests::specs::Command::known))]
+#[tactic(auto, unfolding(crate::specs::Respond::fitted, requests::specs::Command::known))]
 fn is_fitted(allocation: bool, passwords: bool, kind: u8) -> bool
     ensures { result ≡ fitted allocation passwords kind }
 {
@@ -68,7 +66,7 @@ fn is_fitted(allocation: bool, passwords: bool, kind: u8) -> bool
 }
 
 // 16, 4, 16, 12: from the request's length to its operation type.
-#[tactic(auto, using(std::proofs::lemmas::Bool::Decides::nat_tests), unfolding(crate::specs::Respond::first_lines))]
+#[tactic(auto, unfolding(crate::specs::Respond::first_lines))]
 fn first_lines(head: Head, s: &[u8]) -> Result<(), Denial>
     ensures { (u : State) → head ≡ head_of u → line_of result ≡ first_lines u s.now }
 {
@@ -105,7 +103,8 @@ fn serve_allocate(
 ) -> Result<Reply, Denial>
     requires { (head.version ≤ 15) × (2048 ≤ length answer.old) }
     ensures { (u : State) (pool s : List ℕ) → Shows u head table.old pool
-        → Served (allocate_done u port (form_of allocation.access) (grant_in s allocation)) head result answer.old answer.new table.new pool }
+        → Served (allocate_done u port (form_of allocation.access) (grant_in s allocation)) head result
+        answer.old answer.new table.new pool }
 {
     let code = u64::from(allocation.mode);
     let after = store::allocate(
@@ -164,7 +163,8 @@ fn serve_write(
     requires sound { Sound head table.old pool.old }
     requires room { 2048 ≤ length answer.old }
     ensures { (u : State) → Shows u head table.old pool.old
-        → Served (write_done u port (form_of access) ((tag, access), src.now)) head result answer.old answer.new table.new pool.new }
+        → Served (write_done u port (form_of access) ((tag, access), src.now)) head result
+        answer.old answer.new table.new pool.new }
 {
     store::write(head, table, pool, tag, src, port, access)?;
     let form = tags::form_of(access);
@@ -285,7 +285,8 @@ impl Information {
 
     fn write(&self, answer: &mut [u8], version: u8, room: Room) -> Written
         requires { self.now.count ≤ 16 }
-        ensures { Gives version Form.Plain (b.resource_information (room, resources_in self.now)) result answer.old answer.new }
+        ensures { Gives version Form.Plain (b.resource_information (room, resources_in self.now)) result
+            answer.old answer.new }
     {
         let k = self.count;
         answers::write_resources(
@@ -301,12 +302,14 @@ impl Information {
 }
 
 // Tells of each tag of a list that is registered.
+// In this loop and the two like it the list is known to read to its end: no entry is missing.
 fn tell_each(head: Head, table: &[u64], s: &[u8], list: Entries, information: &mut Information)
     requires room { information.old.count + list.count ≤ 16 }
     requires list_ends { ListEnds (key Form.Plain) s.now list }
     ensures few { information.new.count ≤ information.old.count + list.count }
     ensures told { (u : State) (pool : List ℕ) → Shows u head table.now pool
-        → resources_in information.new ≡ all_told u (resources_in information.old) (entries_in (key Form.Plain) s.now list) }
+        → resources_in information.new
+        ≡ all_told u (resources_in information.old) (entries_in (key Form.Plain) s.now list) }
 {
     let mut at = list.start;
     for _ in 0..list.count {
@@ -331,8 +334,8 @@ fn serve_resources(head: Head, table: &[u64], s: &[u8], list: Entries, answer: &
 
 // ---- bulk read
 
-// The entries chosen so far, the first `count` elements of each array: tags, and where their data stands in the memory; and the octets that they take.
-// The writer takes slices side by side.
+// The entries chosen so far, the first `count` elements of each array: tags, and where their data stands in the memory.
+// Together they take `size` octets. The writer takes slices side by side.
 #[derive(Clone, Copy)]
 struct Chosen {
     tags: [u64; 16],
@@ -382,7 +385,8 @@ impl Chosen {
 
     fn write(&self, answer: &mut [u8], version: u8, form: Form, pool: &[u8]) -> Written
         requires { self.now.count ≤ 16 }
-        ensures { Picked self.now pool.now → Gives version form (b.bulk_read (picked self.now pool.now)) result answer.old answer.new }
+        ensures { Picked self.now pool.now → Gives version form (b.bulk_read (picked self.now pool.now)) result
+            answer.old answer.new }
     {
         let k = self.count;
         answers::write_bulk_read(
@@ -411,7 +415,8 @@ fn choose_each(
     requires list_ends { ListEnds (key form) s.now list }
     ensures few { chosen.new.count ≤ chosen.old.count + list.count }
     ensures chosen { (u : State) (pool : List ℕ) → Shows u head table.now pool → Picked chosen.old pool
-        → Picked chosen.new pool × (picked chosen.new pool ≡ all_reads u port (picked chosen.old pool) (entries_in (key form) s.now list)) }
+        → Picked chosen.new pool × (picked chosen.new pool
+        ≡ all_reads u port (picked chosen.old pool) (entries_in (key form) s.now list)) }
 {
     let mut at = list.start;
     for _ in 0..list.count {
@@ -485,7 +490,8 @@ impl Names {
     }
 }
 
-// Writes the entries of a list in turn and notes the names of those written. One that a single command would deny is passed over.
+// Writes the entries of a list in turn and notes the names of those written.
+// One that a single command would deny is passed over.
 fn write_each(
     head: Head,
     table: &mut [u64],
@@ -501,7 +507,8 @@ fn write_each(
     requires list_ends { ListEnds (memory form) s.now list }
     ensures few { names.new.count ≤ names.old.count + list.count }
     ensures written { (u : State) → Shows u head table.old pool.old
-        → Wrote (all_writes port (record { names = names_in names.old; unit = u }) (entries_in (memory form) s.now list)) (names_in names.new) head table.new pool.new }
+        → Wrote (all_writes port (record { names = names_in names.old; unit = u }) (entries_in (memory form) s.now list))
+        (names_in names.new) head table.new pool.new }
 {
     let mut at = list.start;
     for _ in 0..list.count {
@@ -544,6 +551,7 @@ fn bulk_write(
 
 // ---- the entry
 
+// How many entries an operation's list has.
 fn entry_count(operation: Operation) -> usize
     ensures { result ≡ count_of operation }
 {
@@ -571,7 +579,11 @@ fn perform(
     requires room { 2048 ≤ length answer.old }
     requires operation_place { OperationPlace s.now operation }
     ensures { (u : State) (version : ℕ) → Shows u head table.old pool.old
-        → Served (served u port (message (record { version = version; kind = operation_kind operation; body = operation_body s.now operation }))) head result answer.old answer.new table.new pool.new }
+        → Served (served u port (message (record {
+          version = version;
+          kind = operation_kind operation;
+          body = operation_body s.now operation;
+        }))) head result answer.old answer.new table.new pool.new }
 {
     if head.limits.list < entry_count(operation) {
         return Err(Denial::List);

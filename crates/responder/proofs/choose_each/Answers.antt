@@ -15,9 +15,6 @@ loop-init c = record {
 pub returns-in_default : goal.returns-in_default
 returns-in_default c = absurd (never-bad _ _ _ c.loop.invariant.walk c.loop-test.true c.in_default.ensures.says)
 
-pub choose-requires : goal.choose-requires
-choose-requires c = (omega (arith, c.loop.invariant.few), c.loop.invariant.small)
-
 pub loop-preserved : goal.loop-preserved
 loop-preserved c =
     let w = c.loop.invariant.walk in
@@ -26,11 +23,13 @@ loop-preserved c =
       few = omega (arith, c.choose.ensures.few, c.loop.invariant.few);
       small = c.choose.ensures.small;
       walk = walk-next _ _ _ w c.loop-test.true _ e.says e.place;
-      leads = λ u pool s k. going_next u _ _ _ _ _ _ _ _ _ _ (left-on _ _ _ w c.loop-test.true _ e.says) (c.read-held.ensures u pool s) c.choose.ensures (c.loop.invariant.leads u pool s k);
+      leads = λ u pool s k. going_next u _ _ _ _ _ _ _ _ _ _ (left-on _ _ _ w c.loop-test.true _ e.says)
+          (c.read-held.ensures u pool s) c.choose.ensures (c.loop.invariant.leads u pool s k);
     }
 
 pub returns : goal.returns
 returns c = record {
   few = omega (arith, c.loop.invariant.few);
-  chosen = λ u pool s k. going-all u _ _ _ _ _ (left-none _ _ _ c.loop.invariant.walk c.loop-test.false) (c.loop.invariant.leads u pool s k);
+  chosen = λ u pool s k. going-all u _ _ _ _ _ (left-none _ _ _ c.loop.invariant.walk c.loop-test.false)
+      (c.loop.invariant.leads u pool s k);
 }

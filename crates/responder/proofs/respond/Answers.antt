@@ -1,20 +1,15 @@
 use mathlib.Core.Path.{refl}
-use native.Mathlib.Omega.{arith}
-use Rattle.responder.proofs.Sends.{sound-version}
-use Rattle.responder.proofs.Performs.{sound-message, denied, silent-so, replied-so}
+use Rattle.responder.proofs.Performs.{denied, silent-so, replied-so}
 use Rattle.responder.proofs.respond.Goals as goal
 
 pub returns-then-answer-head : goal.returns-then-answer-head
-returns-then-answer-head c = λ u s. silent-so u _ _ _ s c.args.port c.args.request.now _ _ _ _ _ c.if-answer-head.true refl refl s
-
-pub answered-requires : goal.answered-requires
-answered-requires c = record { sound = c.requires; room = omega (arith, sound-message _ _ _ c.requires) }
-
-pub deny-requires : goal.deny-requires
-deny-requires c = (sound-version _ _ _ c.requires, omega (arith, c.answered.auto.answer, sound-message _ _ _ c.requires))
+returns-then-answer-head c = λ u s. silent-so u _ _ _ s c.args.port c.args.request.now _ _ _ _ _ c.if-answer-head.true
+    refl refl s
 
 pub returns-in-Ok : goal.returns-in-Ok
-returns-in-Ok c = λ u s. replied-so u _ _ _ s c.args.port c.args.request.now _ _ _ _ _ c.if-answer-head.false (c.in-Ok.ensures u s)
+returns-in-Ok c = λ u s. replied-so u _ _ _ s c.args.port c.args.request.now _ _ _ _ _ c.if-answer-head.false
+    (c.in-Ok.ensures u s)
 
 pub returns-in-Err : goal.returns-in-Err
-returns-in-Err c = λ u s. replied-so u _ _ _ s c.args.port c.args.request.now _ _ _ _ _ c.if-answer-head.false (denied _ _ _ _ _ _ _ _ _ (c.in-Err.ensures u s) c.deny.ensures)
+returns-in-Err c = λ u s. replied-so u _ _ _ s c.args.port c.args.request.now _ _ _ _ _ c.if-answer-head.false
+    (denied _ _ _ _ _ _ _ _ _ (c.in-Err.ensures u s) c.deny.ensures)

@@ -22,11 +22,13 @@ loop-preserved c =
     record {
       few = omega (arith, c.tell.ensures.few, c.loop.invariant.few);
       walk = walk-next _ _ _ w c.loop-test.true _ e.says e.place;
-      leads = λ u pool s. telling-next u _ _ _ _ _ _ _ _ (left-on _ _ _ w c.loop-test.true _ e.says) (c.find.ensures u pool s) c.tell.ensures.told (c.loop.invariant.leads u pool s);
+      leads = λ u pool s. telling-next u _ _ _ _ _ _ _ _ (left-on _ _ _ w c.loop-test.true _ e.says)
+          (c.find.ensures u pool s) c.tell.ensures.told (c.loop.invariant.leads u pool s);
     }
 
 pub returns : goal.returns
 returns c = record {
   few = omega (arith, c.loop.invariant.few);
-  told = λ u pool s. telling-all u _ _ _ (left-none _ _ _ c.loop.invariant.walk c.loop-test.false) (c.loop.invariant.leads u pool s);
+  told = λ u pool s. telling-all u _ _ _ (left-none _ _ _ c.loop.invariant.walk c.loop-test.false)
+      (c.loop.invariant.leads u pool s);
 }

@@ -23,11 +23,13 @@ loop-preserved c =
       few = omega (arith, c.note.ensures.few, c.loop.invariant.few);
       sound = next-sound _ _ _ _ _ _ _ _ _ _ c.write-written.ensures c.loop.invariant.sound;
       walk = walk-next _ _ _ w c.loop-test.true _ e.says e.place.1;
-      leads = λ u s. next _ _ _ _ _ _ _ _ _ _ c.write-written.ensures (c.loop.invariant.leads u s) (left-on _ _ _ w c.loop-test.true _ e.says) c.part-src.ensures c.note.ensures.noted;
+      leads = λ u s. next _ _ _ _ _ _ _ _ _ _ c.write-written.ensures (c.loop.invariant.leads u s)
+          (left-on _ _ _ w c.loop-test.true _ e.says) c.part-src.ensures c.note.ensures.noted;
     }
 
 pub returns : goal.returns
 returns c = record {
   few = omega (arith, c.loop.invariant.few);
-  written = λ u s. end _ _ _ _ _ _ _ (left-none _ _ _ c.loop.invariant.walk c.loop-test.false) (c.loop.invariant.leads u s);
+  written = λ u s. end _ _ _ _ _ _ _ (left-none _ _ _ c.loop.invariant.walk c.loop-test.false)
+      (c.loop.invariant.leads u s);
 }
