@@ -16,24 +16,17 @@ pub(crate) fn number(rt: &impl Print, n: usize) -> io::Result<()> {
     print!(rt; " {n}")
 }
 
-fn pair(rt: &impl Print, octet: u8) -> io::Result<()> {
-    print!(rt; "{octet:02X}")
-}
-
 // Octets in capital hexadecimal.
 pub(crate) fn hexadecimal(rt: &impl Print, s: &[u8]) -> io::Result<()> {
     for octet in s {
-        pair(rt, *octet)?;
+        print!(rt; "{octet:02X}")?;
     }
     Ok(())
 }
 
 // A tag or a password.
 fn word(rt: &impl Print, x: u64) -> io::Result<()> {
-    let mut field = [0; 8];
-    octets::write_number(&mut field, 0, octets::Width::Eight, x);
-    text(rt, " ")?;
-    hexadecimal(rt, &field)
+    print!(rt; " {x:016X}")
 }
 
 // ---- parts of a message
@@ -58,18 +51,13 @@ fn key(rt: &impl Print, name: &str, access: Access, tag: u64) -> io::Result<()> 
 
 // How many octets or entries there are, and where they start.
 fn place(rt: &impl Print, count: usize, start: usize) -> io::Result<()> {
-    number(rt, count)?;
-    text(rt, " at")?;
-    number(rt, start)?;
-    text(rt, ":")
+    print!(rt; " {count} at {start}:")
 }
 
 // Data, as the part of the message where it stands.
 fn held(rt: &impl Print, s: &[u8], span: Span) -> io::Result<()> {
-    let start = span.start;
-    let len = span.len;
-    place(rt, len, start)?;
-    hexadecimal(rt, octets::part(octets::part(s, start, len), 0, SHOWN))
+    place(rt, span.len, span.start)?;
+    hexadecimal(rt, octets::part(s, span.start, span.len.min(SHOWN)))
 }
 
 // ---- the entries of a list: each is shown, and tells where the next one starts; where none stands, the same place
