@@ -16,24 +16,17 @@ pub(crate) fn number(rt: &impl Print, n: usize) -> io::Result<()> {
     print!(rt; " {n}")
 }
 
-fn pair(rt: &impl Print, octet: u8) -> io::Result<()> {
-    print!(rt; "{octet:02X}")
-}
-
 // Octets in capital hexadecimal.
 pub(crate) fn hexadecimal(rt: &impl Print, s: &[u8]) -> io::Result<()> {
     for octet in s {
-        pair(rt, *octet)?;
+        print!(rt; "{octet:02X}")?;
     }
     Ok(())
 }
 
 // A tag or a password.
 fn word(rt: &impl Print, x: u64) -> io::Result<()> {
-    let mut field = [0; 8];
-    octets::write_number(&mut field, 0, octets::Width::Eight, x);
-    text(rt, " ")?;
-    hexadecimal(rt, &field)
+    print!(rt; " {x:016X}")
 }
 
 // ---- parts of a message
@@ -58,18 +51,13 @@ fn key(rt: &impl Print, name: &str, access: Access, tag: u64) -> io::Result<()> 
 
 // How many octets or entries there are, and where they start.
 fn place(rt: &impl Print, count: usize, start: usize) -> io::Result<()> {
-    number(rt, count)?;
-    text(rt, " at")?;
-    number(rt, start)?;
-    text(rt, ":")
+    print!(rt; " {count} at {start}:")
 }
 
 // Data, as the part of the message where it stands.
 fn held(rt: &impl Print, s: &[u8], span: Span) -> io::Result<()> {
-    let start = span.start;
-    let len = span.len;
-    place(rt, len, start)?;
-    hexadecimal(rt, octets::part(octets::part(s, start, len), 0, SHOWN))
+    place(rt, span.len, span.start)?;
+    hexadecimal(rt, octets::part(s, span.start, span.len.min(SHOWN)))
 }
 
 // ---- the entries of a list: each is shown, and tells where the next one starts; where none stands, the same place
@@ -96,9 +84,7 @@ fn next_resource(rt: &impl Print, s: &[u8], at: usize) -> io::Result<usize> {
         return Ok(at);
     };
     word(rt, value.tag)?;
-    number(rt, value.mode as usize)?;
-    number(rt, value.held as usize)?;
-    number(rt, value.size as usize)?;
+    print!(rt; " {} {} {}", value.mode, value.held, value.size)?;
     Ok(next)
 }
 
@@ -132,12 +118,9 @@ fn request_body(rt: &impl Print, s: &[u8], what: Operation) -> io::Result<()> {
             })
         }
         Operation::Allocate(allocation) => {
-            let access = allocation.access;
-            let initial = allocation.initial;
-            key(rt, " allocate", access, allocation.tag)?;
-            number(rt, allocation.mode as usize)?;
-            number(rt, allocation.size as usize)?;
-            held(rt, s, initial)
+            key(rt, " allocate", allocation.access, allocation.tag)?;
+            print!(rt; " {} {}", allocation.mode, allocation.size)?;
+            held(rt, s, allocation.initial)
         }
         Operation::Free(access, tag) => key(rt, " free", access, tag),
         Operation::Read(access, tag) => key(rt, " read", access, tag),
@@ -167,7 +150,7 @@ pub(crate) fn request(rt: &impl Print, s: &[u8]) -> io::Result<()> {
     match requests::read_request(s) {
         Err(_) => text(rt, " 16")?,
         Ok(Request { version, operation }) => {
-            number(rt, version as usize)?;
+            print!(rt; " {version}")?;
             request_body(rt, s, operation)?;
         }
     }
@@ -185,13 +168,11 @@ fn given(rt: &impl Print, name: &str, form: Form, tag: u64) -> io::Result<()> {
 fn answer_body(rt: &impl Print, s: &[u8], what: Given) -> io::Result<()> {
     match what {
         Given::Resources(room, entries) => {
-            text(rt, " room")?;
-            number(rt, room.largest as usize)?;
-            number(rt, room.tags as usize)?;
-            number(rt, room.octets as usize)?;
-            number(rt, room.volatile_tags as usize)?;
-            number(rt, room.volatile_octets as usize)?;
-            number(rt, room.entries as usize)?;
+            print!(rt; " room {} {} {}", room.largest, room.tags, room.octets)?;
+            print!(rt;
+                " {} {} {}",
+                room.volatile_tags, room.volatile_octets, room.entries
+            )?;
             list(rt, " resources", Form::Plain, entries, |at| {
                 next_resource(rt, s, at)
             })
@@ -227,13 +208,11 @@ pub(crate) fn answer(rt: &impl Print, s: &[u8]) -> io::Result<()> {
                 supplement,
             },
         ) => {
-            number(rt, version as usize)?;
-            text(rt, " denied")?;
-            number(rt, status as usize)?;
+            print!(rt; " {version} denied {status}")?;
             held(rt, s, supplement)?;
         }
         Ok(Reply::Accepted { version, given }) => {
-            number(rt, version as usize)?;
+            print!(rt; " {version}")?;
             answer_body(rt, s, given)?;
         }
     }
