@@ -37,9 +37,9 @@ none_read n k = go (eqb k 0) refl
     go false e = sym (ne_eqb (n + k) n (λ q. eqb-false k 0 e (omega arith)))
 
 -- what a step on the octets at hand tells of the places
-pub hand-learns : (p : Place) (input out : List ℕ) (r : Option Outcome) (t q new table pool : List ℕ) → Within p input out → Sound p.head t q
+pub hand-learns : {p : Place} {input out : List ℕ} {r : Option Outcome} {t q new table pool : List ℕ} → Within p input out → Sound p.head t q
     → ((u : State) → Shows u p.head t q → Stepped (step_out u p.answered p.last (at_hand p input) out p.filled) p.head r new table pool)
     → length new ≡ length out → Learns p.answered p.last (p.end - p.start) p.filled (length out) (word_of r)
-hand-learns p input out r t q new table pool w s d e =
+hand-learns {p} {input} {out} {r} {t} {q} {new} {table} {pool} w s d e =
     let z : length (at_hand p input) ≡ p.end - p.start = length-take-le (p.end - p.start) (drop p.start input) (rw length-drop (omega (arith, w.inside))) in
     rw z at (step-learns p.answered p.last (at_hand p input) out p.filled p.head r t q new table pool s d e)

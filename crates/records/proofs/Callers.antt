@@ -11,7 +11,7 @@ use lib.Dec.{ltb}
 use borrow.Author.Tests.{ltb-false}
 use Rattle.store.specs.Model.{State, Shows, Sound}
 use Rattle.records.specs.Turn.{Turned, more, answered, ended, turn}
-use Rattle.records.specs.Entry.{Word, wants-more, used-written, closed, refusal, word_of, head_of, over, Out, out_of, step_out, Stepped}
+use Rattle.records.specs.Entry.{Word, wants-more, used-written, closed, refusal, word_of, head_after, over, Out, out_of, step_out, Stepped}
 use Rattle.std.specs.Prelude.{Option}
 use Rattle.admission.specs.declared.Head.{Head}
 use Rattle.records.specs.declared.Outcome.{Outcome}
@@ -52,5 +52,5 @@ module _ (n : ℕ) (last : Bool) (s old : List ℕ) (at : ℕ) (h : Head) (r : O
         let o = d u sound.shown in
         rw o.says (by_turn u n last s old at (ltb (length old) (at + 4108)) (turn u n last s) refl (turn-means u n s [] last) (sym (ap length o.area) ∙ e))
 
-    pub step-sound : Sound (head_of h r) table pool
+    pub step-sound : Sound (head_after h r) table pool
     step-sound = record { unit = (step_out sound.unit n last s old at).unit; shown = (d sound.unit sound.shown).left }

@@ -5,7 +5,7 @@ use mathlib.Core.Bool.{Bool}
 use mathlib.Core.List.{List}
 use native.Mathlib.Omega.{arith}
 use native.Mathlib.Numerals.{add-one}
-use lib.ListN.{length, take, drop, length-append, length-take}
+use lib.ListN.{length, take, drop, length-append}
 use lib.Seq.{take_at}
 use borrow.Author.Tests.{lt-ltb, le-ltb}
 use Rattle.octets.specs.Area.{Wrote}
@@ -41,16 +41,12 @@ length-stop n = rw length-append (omega (arith, length-worded bad_words (suc n),
 
 -- what the responder says and writes are the octets of the answer
 spoken-area : (o : Result) (r : Sent) (old area : List ℕ) → e.word_of r ≡ e.word_for o → area ≡ e.area_for o old → take (unwrap_or r 0) area ≡ spoken o
-spoken-area (silent n) (Some m) old area w h = let z : ◌≡◌ {A = ℕ} 0 1 = cc in absurd (omega arith)
+spoken-area (silent n) (Some m) old area w h = cc
 spoken-area (silent n) None old area w h = refl
 spoken-area (replied a) (Some m) old area w h =
     let z : m ≡ length (answer_octets a) = cc in
     ap (take m) h ∙ take_at (answer_octets a) (drop (length (answer_octets a)) old) m (sym z)
-spoken-area (replied a) None old area w h = let z : ◌≡◌ {A = ℕ} 0 1 = cc in absurd (omega arith)
-
--- an answer in an area of 2,048 octets, and its line, have room
-pub length_part : (k : ℕ) (area : List ℕ) → length area ≡ 2048 → length (take k area) ≤ 2048
-length_part k area h = rw length-take (omega arith)
+spoken-area (replied a) None old area w h = cc
 
 module _ (u : State) (n : ℕ) (last : Bool) (s old : List ℕ) (at : ℕ) where
   -- the line of an answer is written

@@ -5,7 +5,7 @@ use Prim.Native.Nat.{ℕ}
 use Rattle.std.specs.Prelude.{Option, Some, None}
 use Rattle.admission.specs.declared.Head.{Head}
 use Rattle.store.proofs.Unique.{shows-unique}
-use Rattle.records.specs.Entry.{refusal, said, word_of, head_of, Out, Stepped}
+use Rattle.records.specs.Entry.{refusal, said, word_of, head_after, Out, Stepped}
 use Rattle.records.specs.declared.Outcome.{Outcome}
 use Rattle.records.specs.declared.Turn.{Turn}
 use Rattle.records.specs.declared.Turn.TheVariants.{More, Answered, Ended}
@@ -29,7 +29,7 @@ not-refused (Answered a b) e = cc
 not-refused (Ended a) e = cc
 
 -- the word and the head of an answer are all of it
-answer-unique : (h : Head) (r v : Option Outcome) → word_of r ≡ word_of v → head_of h r ≡ head_of h v → r ≡ v
+answer-unique : (h : Head) (r v : Option Outcome) → word_of r ≡ word_of v → head_after h r ≡ head_after h v → r ≡ v
 answer-unique h None None e g = refl
 answer-unique h (Some a) (Some b) e g = let z = turn-unique a.turn b.turn e in λ i. Some (record { head = g i; turn = z i })
 answer-unique h None (Some b) e g = absurd (not-refused b.turn (sym e))
@@ -38,5 +38,5 @@ answer-unique h (Some a) None e g = absurd (not-refused a.turn e)
 -- step: its answer, the area for lines, table and memory
 pub step-unique : (o : Out) (h : Head) (r v : Option Outcome) (x y t p q m : List ℕ) → Stepped o h r x t p → Stepped o h v y q m → (r ≡ v) × (x ≡ y) × (t ≡ q) × (p ≡ m)
 step-unique o h r v x y t p q m a b =
-    let w = shows-unique o.unit (head_of h r) (head_of h v) t p q m a.left b.left in
+    let w = shows-unique o.unit (head_after h r) (head_after h v) t p q m a.left b.left in
     (answer-unique h r v (a.says ∙ sym b.says) w.0, a.area ∙ sym b.area, w.1, w.2)

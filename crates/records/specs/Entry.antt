@@ -29,9 +29,9 @@ word_of (Some r) = said r.turn
 word_of None = refusal 300
 
 -- the unit's head afterwards; without an outcome it is the one that the caller has
-abbrev pub head_of : Head → Option Outcome → Head
-head_of h (Some r) = r.head
-head_of h None = h
+abbrev pub head_after : Head → Option Outcome → Head
+head_after h (Some r) = r.head
+head_after h None = h
 
 -- octets written into an area from a place on: before them and behind them it keeps its old content
 abbrev pub over : List ℕ → ℕ → List ℕ → List ℕ
@@ -57,7 +57,7 @@ step_out u n last s old at = cond (ltb (length old) (at + 4108)) (record { word 
 pub record Stepped (o : Out) (h : Head) (r : Option Outcome) (new table pool : List ℕ) : Type 0 where
   pub says : word_of r ≡ o.word
   pub area : new ≡ o.area
-  pub left : Shows o.unit (head_of h r) table pool
+  pub left : Shows o.unit (head_after h r) table pool
 
 -- ---- the functions below the entry
 

@@ -122,6 +122,7 @@ enum Front<'a> {
     Nothing,
     Wrong,
     Cut,
+    // A record. Its request stands behind the first five octets.
     Whole { port: Port, request: &'a [u8] },
 }
 

@@ -4,7 +4,7 @@ use Rattle.records.proofs.Steps.{steps-not, steps}
 use Rattle.records.proofs.step.Goals as goal
 
 pub returns : goal.returns
-returns c = λ u v. steps u c.args.answered c.args.last c.args.octets.now c.args.out.now c.args.at (omega arith) (c.take_turn.ensures u v)
+returns c = λ u v. steps u _ _ _ _ _ (omega arith) (c.take_turn.ensures u v)
 
 pub returns-then-saturating_sub-lt-LINE : goal.returns-then-saturating_sub-lt-LINE
-returns-then-saturating_sub-lt-LINE c = λ u v. steps-not u c.args.answered c.args.last c.args.octets.now c.args.out.now c.args.at (omega arith) v
+returns-then-saturating_sub-lt-LINE c = λ u v. steps-not u _ _ _ _ _ (omega arith) v

@@ -10,23 +10,23 @@ use Rattle.records.proofs.take_turn.Goals as goal
 
 pub returns-in-Nothing : goal.returns-in-Nothing
 returns-in-Nothing c = λ u v.
-    turns-ended u c.args.answered c.args.last c.args.octets.now c.args.out.now c.args.at nothing (end_lines c.args.answered) c.in-Nothing.ensures.0 (grind arith) (omega (arith, length-end c.args.answered, c.requires.room)) c.write_end.ensures v
+    turns-ended u _ _ _ _ _ nothing (end_lines c.args.answered) c.in-Nothing.ensures.0 (grind arith) (omega (arith, length-end c.args.answered, c.requires.room)) c.write_end.ensures v
 
 pub returns-in-Cut : goal.returns-in-Cut
 returns-in-Cut c = λ u v.
-    turns-ended u c.args.answered c.args.last c.args.octets.now c.args.out.now c.args.at cut (stop_lines c.args.answered) c.in-Cut.ensures.0 (grind arith) (omega (arith, length-stop c.args.answered, c.requires.room)) c.write_stop.ensures v
+    turns-ended u _ _ _ _ _ cut (stop_lines c.args.answered) c.in-Cut.ensures.0 (grind arith) (omega (arith, length-stop c.args.answered, c.requires.room)) c.write_stop.ensures v
 
 pub returns-in-Wrong : goal.returns-in-Wrong
 returns-in-Wrong c = λ u v.
-    turns-ended u c.args.answered c.args.last c.args.octets.now c.args.out.now c.args.at wrong (stop_lines c.args.answered) c.in-Wrong.ensures.0 refl (omega (arith, length-stop c.args.answered, c.requires.room)) c.write_stop-in-Wrong.ensures v
+    turns-ended u _ _ _ _ _ wrong (stop_lines c.args.answered) c.in-Wrong.ensures.0 refl (omega (arith, length-stop c.args.answered, c.requires.room)) c.write_stop-in-Wrong.ensures v
 
 pub returns-in-Nothing-2 : goal.returns-in-Nothing-2
-returns-in-Nothing-2 c = λ u v. turns-more u c.args.answered c.args.last c.args.octets.now c.args.out.now c.args.at nothing c.in-Nothing-2.ensures.0 (grind arith) v
+returns-in-Nothing-2 c = λ u v. turns-more u _ _ _ _ _ nothing c.in-Nothing-2.ensures.0 (grind arith) v
 
 pub returns-in-Cut-2 : goal.returns-in-Cut-2
-returns-in-Cut-2 c = λ u v. turns-more u c.args.answered c.args.last c.args.octets.now c.args.out.now c.args.at cut c.in-Cut-2.ensures.0 (grind arith) v
+returns-in-Cut-2 c = λ u v. turns-more u _ _ _ _ _ cut c.in-Cut-2.ensures.0 (grind arith) v
 
 pub returns-in-Whole : goal.returns-in-Whole
 returns-in-Whole c = λ u v.
-    turns u c.args.answered c.args.last c.args.octets.now c.args.out.now c.args.at (whole c.in-Whole.port c.in-Whole.request.now (drop (5 + length c.in-Whole.request.now) c.args.octets.now)) c.in-Whole.ensures.0
+    turns u _ _ _ _ _ (whole c.in-Whole.port c.in-Whole.request.now (drop (5 + length c.in-Whole.request.now) c.args.octets.now)) c.in-Whole.ensures.0
     (c.answer.ensures u c.args.last (drop (5 + length c.in-Whole.request.now) c.args.octets.now) v)
