@@ -121,7 +121,7 @@ fn read_denial(s: &[u8]) -> Result<Reply, Fault>
     })
 }
 
-// A denial with any status and a supplement of at most 127 octets.
+// A denial with any status, so that it is a number, and a supplement of at most 127 octets.
 pub fn write_denial(out: &mut [u8], version: u8, status: u8, supplement: &[u8]) -> Written
     ensures { Does (denial_sent (record { version = version; status = status; supplement = supplement.now }) out.old) result out.new }
 {

@@ -23,6 +23,7 @@ pub enum Fault {
 }
 
 // How a command shows its right to a tag: not at all, or by a password. Any 64 bits are a password, zero too.
+// It is no Option: document 01 names a plain-or-password enum.
 #[derive(Clone, Copy, PartialEq, Eq)]
 pub enum Access {
     Plain,
@@ -204,6 +205,9 @@ fn number_of(s: &[u8]) -> u64
 
 // ---- the fields, at a place
 
+// Slice and place come apart here and in the crates above: document 01 names a reader by value, which stays where it
+// stands, and C hands over the two.
+
 // The length or count that stands at a place.
 pub fn read_length(s: &[u8], at: usize) -> Reading<usize>
     ensures { LengthAt s.now at result }
@@ -365,6 +369,7 @@ pub enum Unwritten {
 pub type Written = Result<usize, Unwritten>;
 
 // Writes what stands before a body of that many octets, if the message may be written and the area has room for the whole of it; the body starts behind it.
+// The operation type is its number: document 01 names a match on it, with ranges.
 pub fn open_message(out: &mut [u8], version: u8, kind: u8, body: usize) -> Written
     ensures { Does (opened version kind body out.old) result out.new }
 {

@@ -45,6 +45,8 @@ impl Slot {
 
 // ---- slots and words
 
+// By functions and no `From`: two words of a row are one access.
+
 fn lock_of(locked: u64, password: u64) -> Access
     ensures { result ≡ lock_of locked password }
 {
