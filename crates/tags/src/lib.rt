@@ -52,7 +52,7 @@ pub fn lock_size(form: Form) -> usize
     }
 }
 
-// The form that an access is of; a password fits its field.
+// The form that an access is of; a password fits its field, which a `From` would not say.
 pub fn form_of(access: Access) -> Form
     ensures { (result ≡ form_of access) × ((lock result).fits access ≡ true) }
 {
