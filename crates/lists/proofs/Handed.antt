@@ -1,23 +1,25 @@
 -- Lists as a caller hands them over: which slices belong together, which lists fit, and how many octets they take.
-use Prim.Native.Nat.{ℕ, ◌+◌, ◌-◌, ◌*◌, ◌^◌, ◌<◌, ◌≤◌}
+use Prim.Native.Nat.{ℕ, zero, suc, ◌+◌, ◌-◌, ◌*◌, ◌^◌, ◌<◌, ◌≤◌}
 use mathlib.Core.Path.{◌≡◌, refl, ◌∙◌}
 use mathlib.Core.Logic.{inl, inr}
 use mathlib.Core.Bool.{Bool, true, false}
-use mathlib.Core.List.{List}
+use mathlib.Core.List.{List, [], ◌∷◌, ◌++◌}
 use native.Mathlib.Omega.{arith}
+use native.Mathlib.Nat.{not-suc-le-zero}
 use native.Mathlib.Numerals.{add-one}
+use lib.Dec.{leb}
 use lib.ListN.{length, get_or, take, drop, length-drop}
 use lib.Seq.{length-take-le}
-use borrow.Author.Tests.{lt-ltb, le-leb, eqb-true, eq-eqb, ne_eqb}
+use borrow.Author.Tests.{leb-true, leb-false, lt-ltb, le-leb, eqb-true, eq-eqb, ne_eqb}
 use Rattle.octets.specs.Length.{encode_length}
-use Rattle.octets.specs.Layout.{put_all, listed, list_of, every, field_octets}
+use Rattle.octets.specs.Layout.{Layout, put_all, fit_all, listed, list_of, every, field_octets}
 use Rattle.octets.specs.Area.{Outcome, Laid, Does, described, Wrote}
 use Rattle.std.specs.Prelude.{Err, Some, None}
 use Rattle.octets.specs.declared.Unwritten.TheVariants.{Refused}
 use Rattle.octets.specs.declared.Access.{Access}
 use Rattle.octets.specs.declared.Form.{Form}
 use Rattle.octets.specs.declared.Form.TheVariants as f
-use Rattle.octets.proofs.Places.{both-are}
+use Rattle.octets.proofs.Places.{both, both-are}
 use Rattle.octets.proofs.Lists.{wrote-entry, put_next, put_mono, put-many, put-even, fit-listed}
 use Rattle.octets.proofs.Sends.{sent-long, described-not}
 use Rattle.tags.specs.Entry.{form_of, lock_size, lock, Keyed, Held, key, memory}
@@ -46,6 +48,24 @@ lock-at f.Password ps i o = lt-ltb (get_or ps i 0) (256 ^ 8) (o i)
 
 key-at : (w : Form) (ts ps : List ℕ) (i : ℕ) → Words ts → Words ps → (key w).fits (key_at w ts ps i) ≡ true
 key-at w ts ps i o u = key_fits w (get_or ts i 0) (access_at w ps i) (o i) (lock-at w ps i u)
+
+-- ---- entries that all fit, each by itself
+
+module _ {A : Type 0} (L : Layout A) where
+  fit-last : (es : List A) (a : A) → fit_all L (es ++ (a ∷ [])) ≡ true → (fit_all L es ≡ true) × (L.fits a ≡ true)
+  fit-last [] a h = (refl, (both (L.fits a) true h).0)
+  fit-last (e ∷ es) a h =
+      let b = both (L.fits e) (fit_all L (es ++ (a ∷ []))) h in
+      let r = fit-last es a b.1 in
+      (both-are _ _ b.0 r.0, r.1)
+
+  fit-at : (f : ℕ → A) (n i : ℕ) → fit_all L (listed f n) ≡ true → i < n → L.fits (f i) ≡ true
+  fit-at f zero i h k = absurd (not-suc-le-zero k)
+  fit-at f (suc n) i h k = let b = fit-last (listed f n) (f n) h in go (leb n i) refl b.1 (λ j. fit-at f n i b.0 j)
+    where
+      go : (t : Bool) → leb n i ≡ t → L.fits (f n) ≡ true → (i < n → L.fits (f i) ≡ true) → L.fits (f i) ≡ true
+      go true t b m = let q : i ≡ n = omega (arith, leb-true n i t) in rw q b
+      go false t b m = m (leb-false _ _ t)
 
 -- ---- a list of tags
 
@@ -98,7 +118,7 @@ module _ (w : Form) (ts ps ss ls s : List ℕ) where
 
     -- the list's size with that entry, as the code adds it up
     pub measured-next : {z a b : ℕ} → z ≡ length (put_all (memory w) (listed (held_at w ts ps ss ls s) i)) → a ≡ lock_size w → b ≡ length (encode_length (get_or ls i 0))
-        → z + 8 + a + b + get_or ls i 0 ≡ length (put_all (memory w) (listed (held_at w ts ps ss ls s) (i + 1)))
+        → z + (8 + a + b + get_or ls i 0) ≡ length (put_all (memory w) (listed (held_at w ts ps ss ls s) (i + 1)))
     measured-next {z} {a} {b} e f g =
         let d : length (take (get_or ls i 0) (drop (get_or ss i 0) s)) ≡ get_or ls i 0 = length-take-le _ _ (rw length-drop k) in
         let m : length ((memory w).put (held_at w ts ps ss ls s i)) ≡ 8 + lock_size w + length (encode_length (get_or ls i 0)) + get_or ls i 0 = length-memory w (held_at w ts ps ss ls s i) ∙ rw d in
@@ -117,11 +137,11 @@ module _ (w : Form) (ts ps ss ls s : List ℕ) where
         let n = put_next (memory w) (held_at w ts ps ss ls s) i in
         memory-fits w (key_at w ts ps i) (take (get_or ls i 0) (drop (get_or ss i 0) s)) (key-at w ts ps i o u) (omega (arith, length-memory w (held_at w ts ps ss ls s i)))
 
-    -- one entry more, as the code writes it
-    pub wrote-memory : (i : ℕ) {k : Access} {d old x y : List ℕ} {at p q : ℕ} → k ≡ access_at w ps i → d ≡ take (get_or ls i 0) (drop (get_or ss i 0) s) → i < length ts
-        → at + length (put_all (memory w) (held_of w ts ps ss ls s)) ≤ length old → Wrote old at (put_all (memory w) (listed (held_at w ts ps ss ls s) i)) x p
-        → Laid x p (field_octets (memory (form_of k)) ((get_or ts i 0, k), d)) y q → Wrote old at (put_all (memory w) (listed (held_at w ts ps ss ls s) (i + 1))) y q
-    wrote-memory i e f h j v l = wrote-entry (memory w) (held_at w ts ps ss ls s) (length ts) i h j v (rw (e, f, form-at w ps i, held_fits i h) at l)
+  -- one entry more, as the code writes it
+  pub wrote-memory : fit_all (memory w) (held_of w ts ps ss ls s) ≡ true → (i : ℕ) {k : Access} {d old x y : List ℕ} {at p q : ℕ} → k ≡ access_at w ps i → d ≡ take (get_or ls i 0) (drop (get_or ss i 0) s) → i < length ts
+      → at + length (put_all (memory w) (held_of w ts ps ss ls s)) ≤ length old → Wrote old at (put_all (memory w) (listed (held_at w ts ps ss ls s) i)) x p
+      → Laid x p (field_octets (memory (form_of k)) ((get_or ts i 0, k), d)) y q → Wrote old at (put_all (memory w) (listed (held_at w ts ps ss ls s) (i + 1))) y q
+  wrote-memory g i e f h j v l = wrote-entry (memory w) (held_at w ts ps ss ls s) (length ts) i h j v (rw (e, f, form-at w ps i, fit-at (memory w) (held_at w ts ps ss ls s) (length ts) i g h) at l)
 
   module _ (t : agrees w (length ts) (length ps) ≡ true) (e : length ss ≡ length ts) (f : length ls ≡ length ts) where
     together : (b : Bool) → every (inside_at ss ls s) (length ts) ≡ b → belong w ts ps ss ls s ≡ b
@@ -144,19 +164,19 @@ module _ (w : Form) (ts ps ss ls s : List ℕ) where
     unmeasured v k old (inl g) = described-not _ _ old (together false g)
     unmeasured v k old (inr g) = described-refused (belong w ts ps ss ls s) _ old (sent-long (list_of (memory w)) v k (held_of w ts ps ss ls s) old (omega (arith, list_length (memory w) (held_at w ts ps ss ls s) (length ts))))
 
-  module _ (v k : ℕ) (old : List ℕ) where
-    apart : belong w ts ps ss ls s ≡ false → Does (memories_sent w v k ts ps ss ls s old) (Err Refused) old
-    unfolding memories_sent
-    apart e = described-not _ _ old e
+  -- slices that do not belong together
+  pub starts_apart : agrees w (length ts) (length ps) ≡ true → (length ss ≡ length ts → ⊥) → belong w ts ps ss ls s ≡ false
+  unfolding belong
+  starts_apart t e = rw (t, ne_eqb _ _ e)
 
-    pub passwords-apart : agrees w (length ts) (length ps) ≡ false → Does (memories_sent w v k ts ps ss ls s old) (Err Refused) old
-    unfolding belong
-    passwords-apart e = apart (rw e)
+  pub lengths-apart : agrees w (length ts) (length ps) ≡ true → length ss ≡ length ts → (length ls ≡ length ts → ⊥) → belong w ts ps ss ls s ≡ false
+  unfolding belong
+  lengths-apart t e f = rw (t, eq-eqb _ _ e, ne_eqb _ _ f)
 
-    pub starts_apart : agrees w (length ts) (length ps) ≡ true → (length ss ≡ length ts → ⊥) → Does (memories_sent w v k ts ps ss ls s old) (Err Refused) old
-    unfolding belong
-    starts_apart t e = apart (rw (t, ne_eqb _ _ e))
+  pub passwords-apart : agrees w (length ts) (length ps) ≡ false → belong w ts ps ss ls s ≡ false
+  unfolding belong
+  passwords-apart e = rw e
 
-    pub lengths-apart : agrees w (length ts) (length ps) ≡ true → length ss ≡ length ts → (length ls ≡ length ts → ⊥) → Does (memories_sent w v k ts ps ss ls s old) (Err Refused) old
-    unfolding belong
-    lengths-apart t e f = apart (rw (t, eq-eqb _ _ e, ne_eqb _ _ f))
+  pub memories-apart : belong w ts ps ss ls s ≡ false → (v k : ℕ) (old : List ℕ) → Does (memories_sent w v k ts ps ss ls s old) (Err Refused) old
+  unfolding memories_sent
+  memories-apart e v k old = described-not _ _ old e

@@ -2,14 +2,20 @@
 // Rules: document 01, 'Messages'; what slices describe in specs/Handed. On octets and tags, by their contracts.
 #![tactic(auto)]
 
-ghost use Rattle.std.specs.Prelude.{◌≡◌, true, ◌+◌, ◌≤◌, ◌<◌, length};
-ghost use Rattle.octets.specs.Layout.{put_all};
+ghost use Rattle.std.specs.Prelude.{◌≡◌, true, ◌+◌, ◌≤◌, length};
+ghost use Rattle.octets.specs.Layout.{put_all, fit_all};
 ghost use Rattle.octets.specs.Area.{Does, Wrote};
-ghost use Rattle.tags.specs.Entry.{key, memory};
-ghost use Rattle.octets.specs.View.{ListAt, Walked};
-ghost use Rattle.lists.specs.Handed.{agrees, access_at, keys_of, held_of, keys_sent, memories_sent, Measured};
+ghost use Rattle.tags.specs.Entry.{Held, key, memory};
+ghost use Rattle.octets.specs.View.{ListAt};
+ghost use Rattle.tags.specs.View.{held};
+ghost use Rattle.lists.specs.Handed.{keys_sent, memories_sent};
+ghost use Rattle.lists.specs.View.{keys_in, memories_in, MeasuredIn};
 
-use octets::{Access, Entries, Fault, Form, Reading, Taken, Unwritten, Written};
+mod slices;
+
+use octets::{Entries, Entry, Fault, Form, Reading, Taken, Unwritten, Written};
+use slices::{Keys, Memories};
+use tags::Memory;
 
 // A list of tags: every entry is of the same length, so the list is read without going over it.
 pub fn read_keys(s: &[u8], at: usize, form: Form) -> Reading<Entries>
@@ -29,58 +35,40 @@ pub fn read_keys(s: &[u8], at: usize, form: Form) -> Reading<Entries>
     })
 }
 
+// An entry of a list of memory data.
+#[derive(Clone, Copy)]
+struct MemoryEntry {
+    form: Form,
+}
+
+impl Entry for MemoryEntry {
+    type Value = Memory;
+
+    ghost Shown = { Held };
+
+    ghost layout = { λ e. memory e.form };
+
+    ghost shown = { λ _. held };
+
+    fn read(self, s: &[u8], at: usize) -> Reading<Memory> {
+        tags::read_memory(s, at, self.form)
+    }
+}
+
 // A list of memory data, gone over entry by entry.
 pub fn read_memories(s: &[u8], at: usize, form: Form) -> Reading<Entries>
     ensures { ListAt (memory form) s.now at result }
 {
-    let Taken {
-        value: count,
-        next: start,
-    } = octets::read_length(s, at)?;
-    walk_memories(s, start, count, form)
+    octets::read_list(s, at, MemoryEntry { form })
 }
 
-fn walk_memories(s: &[u8], start: usize, count: usize, form: Form) -> Reading<Entries>
-    requires { start ≤ length s.now }
-    ensures { Walked (memory form) s.now start count result }
-{
-    let mut at = start;
-    for _ in 0..count {
-        at = tags::read_memory(s, at, form)?.next;
-    }
-    Ok(Taken {
-        value: Entries { start, count },
-        next: at,
-    })
-}
-
-// Whether passwords are handed over as the form wants them: one for every tag, or none.
-fn agree(form: Form, tags: usize, passwords: usize) -> bool
-    ensures { result ≡ agrees form tags passwords }
-{
-    match form {
-        Form::Plain => passwords == 0,
-        Form::Password => passwords == tags,
-    }
-}
-
-fn access_at(form: Form, passwords: &[u64], i: usize) -> Access
-    requires { form ≡ Form.Password → i < length passwords.now }
-    ensures { result ≡ access_at form passwords.now i }
-{
-    match form {
-        Form::Plain => Access::Plain,
-        Form::Password => Access::Password(passwords[i]),
-    }
-}
-
-fn put_keys(out: &mut [u8], at: usize, form: Form, tags: &[u64], passwords: &[u64]) -> usize
-    requires { (agrees form (length tags.now) (length passwords.now) ≡ true) × (at + length (put_all (key form) (keys_of form tags.now passwords.now)) ≤ length out.old) }
-    ensures { Wrote out.old at (put_all (key form) (keys_of form tags.now passwords.now)) out.new result }
+fn put_keys(out: &mut [u8], at: usize, keys: Keys) -> usize
+    requires { at + length (put_all (key keys.form) (keys_in keys)) ≤ length out.old }
+    ensures { Wrote out.old at (put_all (key keys.entry.form) (keys_in keys.entry)) out.new result }
 {
     let mut next = at;
-    for i in 0..tags.len() {
-        next = tags::put_key(out, next, access_at(form, passwords, i), tags[i]);
+    for i in 0..keys.tags.len() {
+        next = tags::put_key(out, next, keys.access(i), keys.tags[i]);
     }
     next
 }
@@ -96,45 +84,30 @@ pub fn write_keys(
 ) -> Written
     ensures { Does (keys_sent form version kind tags.now passwords.now out.old) result out.new }
 {
+    let keys = Keys::new(form, tags, passwords)?;
     let n = tags.len();
-    if !agree(form, n, passwords.len()) {
-        return Err(Unwritten::Refused);
-    }
     if 2048 < n {
         return Err(Unwritten::Refused);
     }
     let body = octets::length_size(n) + n * (8 + tags::lock_size(form));
     let at = octets::open_message(out, version, kind, body)?;
     let first = octets::write_length(out, at, n);
-    Ok(put_keys(out, first, form, tags, passwords))
+    Ok(put_keys(out, first, keys))
 }
 
 // How many octets the entries take; none where a part does not lie within the octets, or where it is more than 2,048.
-fn sum_memories(
-    form: Form,
-    tags: &[u64],
-    passwords: &[u64],
-    starts: &[usize],
-    lengths: &[usize],
-    src: &[u8],
-) -> Option<usize>
-    requires { (length starts.now ≡ length tags.now) × (length lengths.now ≡ length tags.now) }
-    ensures { Measured form tags.now passwords.now starts.now lengths.now src.now (length tags.now) result }
+fn sum_memories(memories: Memories) -> Option<usize>
+    ensures { MeasuredIn memories.entry result }
 {
     let mut size = 0;
-    for i in 0..tags.len() {
-        let start = starts[i];
-        let n = lengths[i];
-        if src.len() < start {
-            return None;
-        }
-        if src.len() - start < n {
-            return None;
-        }
+    for i in 0..memories.keys.tags.len() {
+        let rest = memories.src.get(memories.starts[i]..)?;
+        let piece = rest.get(..memories.lengths[i])?;
+        let n = piece.len();
         if 2048 < n {
             return None;
         }
-        size = size + 8 + tags::lock_size(form) + octets::length_size(n) + n;
+        size += 8 + tags::lock_size(memories.keys.form) + octets::length_size(n) + n;
         if 2048 < size {
             return None;
         }
@@ -142,23 +115,16 @@ fn sum_memories(
     Some(size)
 }
 
-fn put_memories(
-    out: &mut [u8],
-    at: usize,
-    form: Form,
-    tags: &[u64],
-    passwords: &[u64],
-    starts: &[usize],
-    lengths: &[usize],
-    src: &[u8],
-) -> usize
-    requires { (agrees form (length tags.now) (length passwords.now) ≡ true) × (length starts.now ≡ length tags.now) × (length lengths.now ≡ length tags.now) × (length (put_all (memory form) (held_of form tags.now passwords.now starts.now lengths.now src.now)) ≤ 2048) × (at + length (put_all (memory form) (held_of form tags.now passwords.now starts.now lengths.now src.now)) ≤ length out.old) }
-    ensures { Wrote out.old at (put_all (memory form) (held_of form tags.now passwords.now starts.now lengths.now src.now)) out.new result }
+fn put_memories(out: &mut [u8], at: usize, memories: Memories) -> usize
+    requires { (fit_all (memory memories.keys.form) (memories_in memories) ≡ true)
+        × (at + length (put_all (memory memories.keys.form) (memories_in memories)) ≤ length out.old) }
+    ensures { Wrote out.old at (put_all (memory memories.entry.keys.form) (memories_in memories.entry)) out.new result }
 {
+    let keys = memories.keys;
     let mut next = at;
-    for i in 0..tags.len() {
-        let piece = octets::part(src, starts[i], lengths[i]);
-        next = tags::put_memory(out, next, access_at(form, passwords, i), tags[i], piece);
+    for i in 0..keys.tags.len() {
+        let piece = octets::part(memories.src, memories.starts[i], memories.lengths[i]);
+        next = tags::put_memory(out, next, keys.access(i), keys.tags[i], piece);
     }
     next
 }
@@ -178,18 +144,11 @@ pub fn write_memories(
 ) -> Written
     ensures { Does (memories_sent form version kind tags.now passwords.now starts.now lengths.now src.now out.old) result out.new }
 {
+    let keys = Keys::new(form, tags, passwords)?;
+    let memories = Memories::new(keys, starts, lengths, src)?;
+    let size = sum_memories(memories).ok_or(Unwritten::Refused)?;
     let n = tags.len();
-    if !agree(form, n, passwords.len()) {
-        return Err(Unwritten::Refused);
-    }
-    if starts.len() != n {
-        return Err(Unwritten::Refused);
-    }
-    if lengths.len() != n {
-        return Err(Unwritten::Refused);
-    }
-    let size = sum_memories(form, tags, passwords, starts, lengths, src).ok_or(Unwritten::Refused)?;
     let at = octets::open_message(out, version, kind, octets::length_size(n) + size)?;
     let first = octets::write_length(out, at, n);
-    Ok(put_memories(out, first, form, tags, passwords, starts, lengths, src))
+    Ok(put_memories(out, first, memories))
 }

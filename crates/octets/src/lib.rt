@@ -2,13 +2,13 @@
 // Rules: document 01, 'Messages' and 'Tags'. What each function means stands in specs/; no function asks anything of its caller.
 #![tactic(auto)]
 
-ghost use Rattle.std.specs.Prelude.{◌≡◌, ◌+◌, ◌-◌, ◌^◌, ◌<◌, ◌≤◌, length, take, drop};
+ghost use Rattle.std.specs.Prelude.{ℕ, List, ◌≡◌, ◌+◌, ◌-◌, ◌^◌, ◌<◌, ◌≤◌, length, take, drop};
 ghost use Rattle.octets.specs.Length.{encode_length};
-ghost use Rattle.octets.specs.Layout.{field_octets, size};
+ghost use Rattle.octets.specs.Layout.{Layout, field_octets, size};
 ghost use Rattle.octets.specs.Number.{number, octets, width_of, version_part, fill_part, bare};
 ghost use Rattle.octets.specs.Area.{Laid, Does};
 ghost use Rattle.octets.specs.Frame.{opened};
-ghost use Rattle.octets.specs.View.{to_end, LengthAt, NumberAt, DataAt, HeadingOf, EnclosedOf};
+ghost use Rattle.octets.specs.View.{to_end, Reads, LengthAt, NumberAt, DataAt, ListAt, HeadingOf, EnclosedOf};
 
 // What is wrong with octets that do not decode. The first three are of a length or a count alone.
 #[derive(Clone, Copy, PartialEq, Eq)]
@@ -250,10 +250,45 @@ pub fn read_data(s: &[u8], at: usize) -> Reading<Span>
 }
 
 // How many octets a length takes.
+#[tactic(auto, unfolding(crate::specs::Length::encode_length))]
 pub fn length_size(n: usize) -> usize
     ensures { (result ≡ length (encode_length n)) × (result ≤ 2) }
 {
     if n < 128 { 1 } else { 2 }
+}
+
+// ---- lists, whose entries are read one by one
+
+// How one entry of a list is read.
+pub trait Entry: Copy {
+    type Value: Copy;
+
+    ghost Shown: { Type 0 };
+
+    ghost layout: { Self → Layout Shown };
+
+    ghost shown: { Self → List ℕ → Self.Value → Shown };
+
+    fn read(self, s: &[u8], at: usize) -> Reading<Self::Value>
+        ensures { Reads ((layout self).get (drop at s.now)) (shown self s.now) (λ t. t.next ≤ length s.now) s.now result };
+}
+
+// A list: its count, and its entries, gone over one by one.
+pub fn read_list<E: Entry>(s: &[u8], at: usize, entry: E) -> Reading<Entries>
+    ensures { ListAt (E.layout entry) s.now at result }
+{
+    let Taken {
+        value: count,
+        next: start,
+    } = read_length(s, at)?;
+    let mut place = start;
+    for _ in 0..count {
+        place = entry.read(s, place)?.next;
+    }
+    Ok(Taken {
+        value: Entries { start, count },
+        next: place,
+    })
 }
 
 // ---- fields that are written: whole or not at all
@@ -343,10 +378,7 @@ pub fn open_message(out: &mut [u8], version: u8, kind: u8, body: usize) -> Writt
     if out.len() < start + body {
         return Err(Unwritten::NoRoom);
     }
-    out[0] = version << 4;
-    out[1] = 1;
-    out[2] = kind;
-    out[3] = 0;
+    copy(out, 0, &[version << 4, 1, kind, 0]);
     write_length(out, 4, body);
     Ok(start)
 }
@@ -361,18 +393,15 @@ pub struct Heading {
 pub fn read_heading(s: &[u8]) -> Result<Heading, Fault>
     ensures { HeadingOf s.now result }
 {
-    if s.len() < 3 {
+    let [first, 1, kind, ..] = *s else {
         return Err(Fault::Other);
-    }
-    if fill_of(s[0]) != 0 {
-        return Err(Fault::Other);
-    }
-    if s[1] != 1 {
+    };
+    if fill_of(first) != 0 {
         return Err(Fault::Other);
     }
     Ok(Heading {
-        version: version_of(s[0]),
-        kind: s[2],
+        version: version_of(first),
+        kind,
     })
 }
 
@@ -380,12 +409,9 @@ pub fn read_heading(s: &[u8]) -> Result<Heading, Fault>
 pub fn read_enclosed(s: &[u8]) -> Result<usize, Fault>
     ensures { EnclosedOf s.now result }
 {
-    if s.len() < 4 {
+    let [_, _, _, 0, ..] = *s else {
         return Err(Fault::Other);
-    }
-    if s[3] != 0 {
-        return Err(Fault::Other);
-    }
+    };
     let Taken { value: n, next } = read_length(s, 4)?;
     if left_at(s, next) != n {
         return Err(Fault::Other);

@@ -7,17 +7,19 @@ use lib.ListN.{get_or}
 use lib.Dec.{eqb}
 use borrow.Author.Tests.{eq-eqb, eqb-true}
 use Rattle.octets.specs.Reading.{ok, Octets}
-use Rattle.octets.specs.Layout.{list_of}
+use Rattle.octets.specs.Layout.{Layout, list_of}
+use Rattle.octets.specs.Frame.{sent, encode, writable}
 use Rattle.octets.specs.declared.Form.{Form}
+use Rattle.octets.specs.declared.Form.TheVariants as f
 use Rattle.octets.proofs.Places.{both, both-are}
 use Rattle.octets.proofs.Lawful.{Lawful, list_lawful, allowed-lawful, wrap-there, wrap-back}
 use Rattle.tags.specs.Entry.{key, memory}
 use Rattle.tags.proofs.Entries.{key-lawful, memory-lawful}
 use Rattle.resources.specs.Resource.{allocation}
-use Rattle.resources.proofs.Resources.{allocation-lawful}
-use Rattle.requests.specs.Command.{Command, command_number, commands, command_at, known, form_at}
+use Rattle.resources.proofs.Bodies.{allocation-lawful}
+use Rattle.requests.specs.Command.{Command, kind_of, command_number, commands, command_at, known, form_at}
 use Rattle.requests.specs.Command as c
-use Rattle.requests.specs.Request.{Body, command_of, body_put, body_fits, body_get, body_of, request_body}
+use Rattle.requests.specs.Request.{Body, command_of, body_put, body_fits, body_get, body_of, request_body, request, request_sent}
 use Rattle.requests.specs.Request as b
 
 -- a command is told by its number
@@ -33,6 +35,59 @@ at-number c.bulk_write = refl
 -- two commands of one number are one
 pub same-command : (x y : Command) → command_number x ≡ command_number y → x ≡ y
 same-command x y e = sym (at-number x) ∙ ap (λ (n : ℕ). get_or commands n c.resource_information) e ∙ at-number y
+
+-- ---- the table of operation types
+
+-- a form that an operation has: resource information is always plain
+abbrev pub Listed : Command → Form → Type 0
+Listed c.resource_information f.Plain = Unit {0}
+Listed c.resource_information f.Password = ⊥
+Listed x w = Unit {0}
+
+-- its type tells the form
+pub form-is : (x : Command) (w : Form) → Listed x w → form_at (kind_of x w) ≡ w
+form-is c.resource_information f.Plain t = refl
+form-is c.resource_information f.Password t = absurd t
+form-is c.allocate f.Plain t = refl
+form-is c.allocate f.Password t = refl
+form-is c.free f.Plain t = refl
+form-is c.free f.Password t = refl
+form-is c.read f.Plain t = refl
+form-is c.read f.Password t = refl
+form-is c.write f.Plain t = refl
+form-is c.write f.Password t = refl
+form-is c.bulk_read f.Plain t = refl
+form-is c.bulk_read f.Password t = refl
+form-is c.bulk_write f.Plain t = refl
+form-is c.bulk_write f.Password t = refl
+
+-- and has its body
+pub row : (x : Command) (w : Form) → Listed x w → request_body (kind_of x w) ≡ body_of x w
+unfolding request_body known
+row c.resource_information f.Plain t = refl
+row c.resource_information f.Password t = absurd t
+row c.allocate f.Plain t = refl
+row c.allocate f.Password t = refl
+row c.free f.Plain t = refl
+row c.free f.Password t = refl
+row c.read f.Plain t = refl
+row c.read f.Password t = refl
+row c.write f.Plain t = refl
+row c.write f.Password t = refl
+row c.bulk_read f.Plain t = refl
+row c.bulk_read f.Password t = refl
+row c.bulk_write f.Plain t = refl
+row c.bulk_write f.Password t = refl
+
+-- so a body that is written in the frame of its type is the request written
+pub sent-is : (b : Body) (w : Form) → Listed (command_of b) w → {A : Type 0} (L : Layout A) (a : A)
+    → L.put a ≡ body_put w b → L.fits a ≡ body_fits w b → (version : ℕ) (old : List ℕ)
+    → sent L version (kind_of (command_of b) w) a old ≡ request_sent (request version w b) old
+unfolding sent encode writable
+sent-is b w t L a p f version old =
+    rw (row (command_of b) w t, p, f, eq-eqb (command_number (command_of b)) (command_number (command_of b)) refl)
+
+-- ---- bodies read back
 
 module _ (w : Form) where
   -- a body that is written reads back

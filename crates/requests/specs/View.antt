@@ -55,24 +55,24 @@ OperationPlace s (o.BulkWrite w list) = ListEnds (memory w) s list
 
 -- ---- a body, from a place to the last octet
 
--- a body that was read to the last octet; or a fault
-abbrev pub decoded_in : List ℕ → Result Operation Fault → Read Body
-decoded_in s (Ok x) = ok (operation_body s x) []
-decoded_in s (Err f) = bad f
+-- a value that was read to the last octet, as it is shown; or a fault
+abbrev pub whole_in : {V A : Type 0} → (V → A) → Result V Fault → Read A
+whole_in shown (Ok x) = ok (shown x) []
+whole_in shown (Err f) = bad f
 
--- it is of that operation type, and its part ends where s ends
+-- a body is of that operation type, and its part ends where s ends
 abbrev pub DecodedPlace : List ℕ → ℕ → Result Operation Fault → Type 0
 DecodedPlace s kind (Ok x) = (operation_kind x ≡ kind) × OperationPlace s x
 DecodedPlace s kind (Err f) = Unit {0}
 
 -- what reading the body of one operation at a place answers
 pub record DecodedAs (x : Command) (w : Form) (s : List ℕ) (at : ℕ) (r : Result Operation Fault) : Type 0 where
-  pub says : decoded_in s r ≡ at_end ((body_of x w).get (drop at s))
+  pub says : whole_in (operation_body s) r ≡ at_end ((body_of x w).get (drop at s))
   pub place : DecodedPlace s (kind_of x w) r
 
 -- what reading the body of an operation type at a place answers
 pub record DecodedAt (kind : ℕ) (s : List ℕ) (at : ℕ) (r : Result Operation Fault) : Type 0 where
-  pub says : decoded_in s r ≡ at_end ((request_body kind).get (drop at s))
+  pub says : whole_in (operation_body s) r ≡ at_end ((request_body kind).get (drop at s))
   pub place : DecodedPlace s kind r
 
 -- ---- a whole request

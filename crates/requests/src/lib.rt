@@ -3,20 +3,24 @@
 // resources, by their contracts.
 #![tactic(auto)]
 
-ghost use Rattle.std.specs.Prelude.{[], ◌≡◌, ◌≤◌};
+ghost use Rattle.std.specs.Prelude.{[], ◌≡◌, ◌≤◌, drop};
+ghost use Rattle.octets.specs.Reading.{at_end};
 ghost use Rattle.octets.specs.Area.{Does};
-ghost use Rattle.tags.specs.Entry.{form_of};
+ghost use Rattle.tags.specs.Entry.{form_of, key};
+ghost use Rattle.tags.specs.View.{keyed};
 ghost use Rattle.lists.specs.Handed.{keys_of};
 ghost use Rattle.requests.specs.Command.{form_number};
 ghost use Rattle.requests.specs.Command as c;
 ghost use Rattle.requests.specs.Request as b;
 ghost use Rattle.requests.specs.Request.{request, request_sent, bulk_read_sent, bulk_write_sent};
-ghost use Rattle.requests.specs.View.{DecodedAs, DecodedAt, Understood};
+ghost use Rattle.requests.specs.View.{whole_in, DecodedAs, DecodedAt, Understood};
 
 use octets::{Access, Entries, Fault, Form, Heading, Span, Taken, Written};
 use resources::Allocation;
+use tags::Key;
 
-// What a request asks. A single operation carries its access; in a bulk list each entry has its own, and the operation says whether the entries have passwords.
+// What a request asks. A single operation carries its access, as document 01 names it; in a bulk list each entry has
+// its own, and the operation says whether the entries have passwords.
 #[derive(Clone, Copy)]
 pub enum Operation {
     // Tags, always plain.
@@ -48,8 +52,9 @@ pub fn read_request(s: &[u8]) -> Result<Request, Fault>
     Ok(Request { version, operation })
 }
 
-// The body of an operation type, from a place to the last octet. A single operation is read by one call, which the compiler puts here, so that what it returns is not
-// stored and copied; a list by two, in each of which the form is known: its entries are gone over quicker.
+// The body of an operation type, from a place to the last octet. A single operation is read by one call, which the
+// compiler puts here, so that what it returns is not stored and copied; a list by two, in each of which the form is
+// known: its entries are gone over quicker.
 fn read_body(s: &[u8], at: usize, kind: u8) -> Result<Operation, Fault>
     ensures { DecodedAt kind s.now at result }
 {
@@ -57,8 +62,14 @@ fn read_body(s: &[u8], at: usize, kind: u8) -> Result<Operation, Fault>
     match kind {
         0 => read_resources(s, at),
         1 | 65 => read_allocate(s, at, form),
-        2 | 66 => read_free(s, at, form),
-        3 | 67 => read_read(s, at, form),
+        2 | 66 => {
+            let key = read_tag(s, at, form)?;
+            Ok(Operation::Free(key.access, key.tag))
+        }
+        3 | 67 => {
+            let key = read_tag(s, at, form)?;
+            Ok(Operation::Read(key.access, key.tag))
+        }
         4 | 68 => read_write(s, at, form),
         5 => read_bulk_read(s, at, Form::Plain),
         6 => read_bulk_write(s, at, Form::Plain),
@@ -99,6 +110,7 @@ fn read_resources(s: &[u8], at: usize) -> Result<Operation, Fault>
 }
 
 // Asks for resource information of tags.
+// Writers take a tag and its access apart, and lists as slices side by side: so the C interface hands them over.
 pub fn write_resources(out: &mut [u8], version: u8, tags: &[u64]) -> Written
     ensures { Does (request_sent (request version Form.Plain (b.resource_information (keys_of Form.Plain tags.now []))) out.old) result out.new }
 {
@@ -130,13 +142,13 @@ pub fn write_allocate(
     resources::write_allocation(out, version, kind, access, tag, mode, size, initial)
 }
 
-// ---- free
+// ---- free and read
 
-fn read_free(s: &[u8], at: usize, form: Form) -> Result<Operation, Fault>
-    ensures { DecodedAs c.free form s.now at result }
+// A tag and how the right to it is shown, from a place to the last octet.
+fn read_tag(s: &[u8], at: usize, form: Form) -> Result<Key, Fault>
+    ensures { whole_in keyed result ≡ at_end ((key form).get (drop at s.now)) }
 {
-    let key = tags::read_key(s, at, form)?.to_end(s)?;
-    Ok(Operation::Free(key.access, key.tag))
+    tags::read_key(s, at, form)?.to_end(s)
 }
 
 pub fn write_free(out: &mut [u8], version: u8, access: Access, tag: u64) -> Written
@@ -144,15 +156,6 @@ pub fn write_free(out: &mut [u8], version: u8, access: Access, tag: u64) -> Writ
 {
     let kind = 2 + form_number(tags::form_of(access));
     tags::write_key(out, version, kind, access, tag)
-}
-
-// ---- read
-
-fn read_read(s: &[u8], at: usize, form: Form) -> Result<Operation, Fault>
-    ensures { DecodedAs c.read form s.now at result }
-{
-    let key = tags::read_key(s, at, form)?.to_end(s)?;
-    Ok(Operation::Read(key.access, key.tag))
 }
 
 pub fn write_read(out: &mut [u8], version: u8, access: Access, tag: u64) -> Written
@@ -164,7 +167,8 @@ pub fn write_read(out: &mut [u8], version: u8, access: Access, tag: u64) -> Writ
 
 // ---- write
 
-// Memory data, read by its parts: tags::read_memory is too large to be inlined, and what it returns would be stored and copied on.
+// Memory data, read by its parts: tags::read_memory is too large to be inlined, and what it returns would be stored
+// and copied on.
 fn read_write(s: &[u8], at: usize, form: Form) -> Result<Operation, Fault>
     ensures { DecodedAs c.write form s.now at result }
 {
@@ -189,7 +193,8 @@ fn read_bulk_read(s: &[u8], at: usize, form: Form) -> Result<Operation, Fault>
     Ok(Operation::BulkRead(form, list))
 }
 
-// A list of any number of tags, with a password each or plain: then no passwords are handed over. Where they are not one for every tag, 16.
+// A list of any number of tags, with a password each or plain: then no passwords are handed over. Where they are not
+// one for every tag, 16.
 pub fn write_bulk_read(
     out: &mut [u8],
     version: u8,
@@ -212,8 +217,8 @@ fn read_bulk_write(s: &[u8], at: usize, form: Form) -> Result<Operation, Fault>
     Ok(Operation::BulkWrite(form, list))
 }
 
-// A list of any number of tags with data, and a password each or plain. The data of entry i is the part of `src` that starts at start i and has length i. Where the
-// slices are not of one length, or a part does not lie within `src`, 16.
+// A list of any number of tags with data, and a password each or plain. The data of entry i is the part of `src` that
+// starts at start i and has length i. Where the slices are not of one length, or a part does not lie within `src`, 16.
 pub fn write_bulk_write(
     out: &mut [u8],
     version: u8,

@@ -19,7 +19,6 @@ pub mod Secret
 pub mod Alike
 pub mod Kept
 pub mod Log
-pub mod Lines
 pub mod Sends
 pub mod Shown
 pub mod Walks

@@ -26,7 +26,7 @@ use Rattle.tags.proofs.Entries.{length-key, length-memory, key_fits, memory-fits
 use Rattle.resources.specs.Resource.{Grant, mode_known, allocation, room, resource}
 use Rattle.resources.specs.declared.Resource.{Resource}
 use Rattle.resources.specs.declared.Room.{Room}
-use Rattle.resources.proofs.Resources.{length-room, length-resource, room_fits, resource-fits}
+use Rattle.resources.proofs.Bodies.{length-room, length-resource, room_fits, resource-fits}
 use Rattle.requests.specs.Command.{known, command_number, command_at, form_at}
 use Rattle.requests.specs.Request.{request_body, request_read}
 use Rattle.requests.specs.Request as q

@@ -1,14 +1,12 @@
 -- Loops that write a list over a slice, from a place on: how such a loop starts, turns and ends. Stated over free numbers, so that each premise is plain
 -- arithmetic wherever a loop keeps its place. Assumes nothing.
-use mathlib.Core.Path.{◌≡◌, refl, sym, ap, ◌∙◌}
+use mathlib.Core.Path.{◌≡◌, sym, ap, ◌∙◌}
 use mathlib.Core.List.{List, ◌++◌, append_assoc}
 use Prim.Native.Nat.{ℕ, suc, ◌+◌, ◌-◌, ◌≤◌, ◌<◌}
 use native.Mathlib.Omega.{arith}
 use native.Mathlib.Numerals.{add-one}
 use lib.ListN.{length, take, drop, get_or, set, replicate, length-append, length-take, length-drop, length-replicate, get_or-replicate, take-append-drop}
 use lib.Seq.{sets, sets-eq, paste, take-length, length-take-le, get_or-drop, drop-drop}
-use borrow.Rule.Slice.PartMut.{put_mid}
-use Rattle.std.proofs.lemmas.Slice.{put_mid-paste}
 use Rattle.octets.proofs.Numbers.{sets-step}
 use Rattle.rows.specs.Image.{closed}
 use Rattle.rows.proofs.Places.{sets-mid, get_or-sets, drop-take}
@@ -77,12 +75,10 @@ unfolding part
 close-all d x at n m j e end ex em ee ej h = close-sets d x at n m j e end ex em ee ej h
 
 -- a part that was copied within the list is written from a place on
-pub pasted : (d s : List ℕ) (at n m : ℕ) → n ≡ m → n ≤ length s → at + n ≤ length d → paste d at s n ≡ sets d at (take m s)
+pub pasted : (d s : List ℕ) (at n m : ℕ) → n ≡ m → n ≤ length s → at + n ≤ length d
+    → paste d at s n ≡ sets d at (take m s)
 pasted d s at n m e h l =
     let k = length-take-le n s h in
-    ap (λ (j : ℕ). take at d ++ take n s ++ drop (at + j) d) (sym k) ∙ sym (sets-eq (take n s) d at (omega (arith, k))) ∙ ap (λ (j : ℕ). sets d at (take j s)) e
-
--- a part of a slice that is written whole is written from its start on
-pub put-part : (d s : List ℕ) (at k : ℕ) → length s ≡ k → at + k ≤ length d → put_mid at k d s ≡ sets d at s
-put-part d s at k e h =
-    put_mid-paste at k d s s k refl refl (sym e) ∙ pasted d s at k (length s) (sym e) (omega (arith, e)) h ∙ ap (sets d at) (take-length s)
+    ap (λ (j : ℕ). take at d ++ take n s ++ drop (at + j) d) (sym k)
+    ∙ sym (sets-eq (take n s) d at (omega (arith, k)))
+    ∙ ap (λ (j : ℕ). sets d at (take j s)) e

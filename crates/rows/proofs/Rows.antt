@@ -3,6 +3,7 @@ use mathlib.Core.Path.{◌≡◌, refl, sym, ap, ◌∙◌}
 use mathlib.Core.List.{List, [], ◌∷◌, ◌++◌, append-nil, append_assoc, flat_map}
 use mathlib.Core.Bool.{Bool, true, false, cond}
 use Rattle.std.specs.Prelude.{Some, None}
+use Rattle.std.proofs.lemmas.Option.{none-some, same_Some}
 use Prim.Native.Nat.{ℕ, zero, suc, ◌+◌, ◌-◌, ◌*◌, ◌≤◌, ◌<◌}
 use native.Mathlib.Omega.{arith}
 use native.Mathlib.Decide.{ℕ_discrete}
@@ -145,21 +146,15 @@ pub scan-miss : (t : List ℕ) (x k n k' n' : ℕ) → k' ≡ suc k → n ≡ su
 unfolding scan
 scan-miss t x k n k' n' ek en h = rw (ek, en, ne_eqb (get_or t (k * 8) 0) x h)
 
-at_same : (i j : ℕ) → Some i ≡ Some j → i ≡ j
-at_same i j e = cc
-
-not_at : (i : ℕ) → Some i ≡ None → ⊥
-not_at i e = let z : ◌≡◌ {A = ℕ} 0 1 = cc in omega arith
-
 -- a row that is found is one of those looked at, and has the tag
 pub scan-found : (t : List ℕ) (x k n i : ℕ) → scan t x k n ≡ Some i → (i < k + n) × (get_or t (i * 8) 0 ≡ x)
 unfolding scan
-scan-found t x k zero i e = absurd (not_at i (sym e))
+scan-found t x k zero i e = absurd (none-some i e)
 scan-found t x k (suc n) i e = go (eqb (get_or t (k * 8) 0) x) refl e (scan-found t x (suc k) n i)
   where
     go : (b : Bool) → eqb (get_or t (k * 8) 0) x ≡ b → cond b (Some k) (scan t x (suc k) n) ≡ Some i
         → (scan t x (suc k) n ≡ Some i → (i < suc k + n) × (get_or t (i * 8) 0 ≡ x)) → (i < k + suc n) × (get_or t (i * 8) 0 ≡ x)
-    go true q f g = let j : k ≡ i = at_same k i f in (omega arith, rw (← j) (eqb-true (get_or t (k * 8) 0) x q))
+    go true q f g = let j : k ≡ i = same_Some k i f in (omega arith, rw (← j) (eqb-true (get_or t (k * 8) 0) x q))
     go false q f g = (omega (arith, (g f).0), (g f).1)
 
 -- where none is found, none of those looked at has the tag
@@ -170,7 +165,7 @@ scan-missing t x k (suc n) e i h l q = go (eqb (get_or t (k * 8) 0) x) refl e (�
   where
     go : (b : Bool) → eqb (get_or t (k * 8) 0) x ≡ b → cond b (Some k) (scan t x (suc k) n) ≡ None → Dec (k ≡ i)
         → (scan t x (suc k) n ≡ None → (i : ℕ) → suc k ≤ i → i < suc k + n → get_or t (i * 8) 0 ≡ x → ⊥) → ⊥
-    go true p f d g = not_at k f
+    go true p f d g = none-some k (sym f)
     go false p f (yes j) g = eqb-false (get_or t (k * 8) 0) x p (rw j q)
     go false p f (no j) g = g f i (omega arith) (omega arith) q
 

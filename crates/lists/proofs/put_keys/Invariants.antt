@@ -5,4 +5,4 @@ use Rattle.lists.specs.Handed.{key_at}
 use Rattle.lists.proofs.put_keys.Given as goal
 
 abbrev pub invariant-loop-i : goal.invariant-loop-i
-invariant-loop-i l = Wrote l.initial.out l.at (put_all (key l.form) (listed (key_at l.form l.tags l.passwords) l.i)) l.out l.next
+invariant-loop-i l = Wrote l.initial.out l.at (put_all (key l.keys.form) (listed (key_at l.keys.form l.keys.tags.now l.keys.passwords.now) l.i)) l.out l.next

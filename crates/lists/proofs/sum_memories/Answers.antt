@@ -1,5 +1,6 @@
-use Prim.Native.Nat.{◌+◌}
+use Prim.Native.Nat.{◌+◌, ◌-◌, ◌≤◌}
 use mathlib.Core.Path.{◌≡◌, refl}
+use mathlib.Core.Bool.{false}
 use mathlib.Core.Logic.{inl, inr}
 use native.Mathlib.Omega.{arith}
 use lib.ListN.{length, get_or}
@@ -9,30 +10,50 @@ use Rattle.lists.specs.Handed.{inside_at}
 use Rattle.lists.proofs.Handed.{inside-next, measured-next, measured-over}
 use Rattle.lists.proofs.sum_memories.Goals as goal
 
-pub returns-then-src-start : goal.returns-then-src-start
-returns-then-src-start c =
-    inl (every-not (inside_at c.args.starts.now c.args.lengths.now c.args.src.now) (length c.args.tags.now) c.loop-i.i (omega arith) (lt-leb (get_or c.args.starts.now c.loop-i.i 0 + get_or c.args.lengths.now c.loop-i.i 0) (length c.args.src.now) (omega arith)))
+pub returns-in_err-rest : goal.returns-in_err-rest
+returns-in_err-rest c =
+    let m = c.args.memories in
+    let f : inside_at m.starts.now m.lengths.now m.src.now c.loop-i.i ≡ false = elim c.in_err-rest.ensures.lookup.0 [
+      | inl h ↦ lt-leb (get_or m.starts.now c.loop-i.i 0 + get_or m.lengths.now c.loop-i.i 0) (length m.src.now) (omega arith)
+      | inr h ↦ absurd (omega arith)
+    ] in
+    rw c.from_residual.ensures (inl (every-not (inside_at m.starts.now m.lengths.now m.src.now) (length m.keys.tags.now) c.loop-i.i (omega arith) f))
 
-pub returns-then-src-start-2 : goal.returns-then-src-start-2
-returns-then-src-start-2 c =
-    inl (every-not (inside_at c.args.starts.now c.args.lengths.now c.args.src.now) (length c.args.tags.now) c.loop-i.i (omega arith) (lt-leb (get_or c.args.starts.now c.loop-i.i 0 + get_or c.args.lengths.now c.loop-i.i 0) (length c.args.src.now) (omega arith)))
+pub returns-in_err-piece : goal.returns-in_err-piece
+returns-in_err-piece c =
+    let m = c.args.memories in
+    let s = c.in_ok-rest.ensures.lookup.0 in
+    let f : inside_at m.starts.now m.lengths.now m.src.now c.loop-i.i ≡ false = elim c.in_err-piece.ensures.lookup.0 [
+      | inl h ↦ absurd (omega arith)
+      | inr h ↦ lt-leb (get_or m.starts.now c.loop-i.i 0 + get_or m.lengths.now c.loop-i.i 0) (length m.src.now) (omega (arith, s.3, h))
+    ] in
+    rw c.from_residual-in_err-piece.ensures (inl (every-not (inside_at m.starts.now m.lengths.now m.src.now) (length m.keys.tags.now) c.loop-i.i (omega arith) f))
 
 pub returns-then-n-gt2048 : goal.returns-then-n-gt2048
 returns-then-n-gt2048 c =
-    let g = measured-next c.args.form c.args.tags.now c.args.passwords.now c.args.starts.now c.args.lengths.now c.args.src.now c.loop-i.i c.if-src-start.false c.if-src-start-2.false c.loop-i.invariant.2 refl refl in
-    inr (measured-over c.args.form c.args.tags.now c.args.passwords.now c.args.starts.now c.args.lengths.now c.args.src.now c.loop-i.i (omega arith) (omega arith))
+    let m = c.args.memories in
+    let s = c.in_ok-rest.ensures.lookup.0 in
+    let p = c.in_ok-piece.ensures.lookup.0 in
+    let h : get_or m.lengths.now c.loop-i.i 0 ≤ length m.src.now - get_or m.starts.now c.loop-i.i 0 = omega (arith, s.3, p.1) in
+    let g = measured-next m.keys.form m.keys.tags.now m.keys.passwords.now m.starts.now m.lengths.now m.src.now c.loop-i.i s.0 h c.loop-i.invariant.2 refl refl in
+    inr (measured-over m.keys.form m.keys.tags.now m.keys.passwords.now m.starts.now m.lengths.now m.src.now c.loop-i.i (omega arith) (omega (arith, g, p.3)))
 
 pub returns-then-size-gt2048 : goal.returns-then-size-gt2048
 returns-then-size-gt2048 c =
-    let g = measured-next c.args.form c.args.tags.now c.args.passwords.now c.args.starts.now c.args.lengths.now c.args.src.now c.loop-i.i c.if-src-start.false c.if-src-start-2.false c.loop-i.invariant.2 c.lock_size.ensures.0 c.length_size.ensures.0 in
-    inr (measured-over c.args.form c.args.tags.now c.args.passwords.now c.args.starts.now c.args.lengths.now c.args.src.now c.loop-i.i (omega arith) (omega arith))
+    let m = c.args.memories in
+    let s = c.in_ok-rest.ensures.lookup.0 in
+    let p = c.in_ok-piece.ensures.lookup.0 in
+    let h : get_or m.lengths.now c.loop-i.i 0 ≤ length m.src.now - get_or m.starts.now c.loop-i.i 0 = omega (arith, s.3, p.1) in
+    let n : length c.in_ok-piece.piece.now ≡ get_or m.lengths.now c.loop-i.i 0 = omega (arith, p.3) in
+    let g = measured-next m.keys.form m.keys.tags.now m.keys.passwords.now m.starts.now m.lengths.now m.src.now c.loop-i.i s.0 h c.loop-i.invariant.2 c.lock_size.ensures.0 (rw n at c.length_size.ensures.0) in
+    inr (measured-over m.keys.form m.keys.tags.now m.keys.passwords.now m.starts.now m.lengths.now m.src.now c.loop-i.i (omega arith) (omega (arith, g, n)))
 
 pub loop-i-preserved : goal.loop-i-preserved
 loop-i-preserved c =
-    let g = measured-next c.args.form c.args.tags.now c.args.passwords.now c.args.starts.now c.args.lengths.now c.args.src.now c.loop-i.i c.if-src-start.false c.if-src-start-2.false c.loop-i.invariant.2 c.lock_size.ensures.0 c.length_size.ensures.0 in
-    (inside-next c.args.form c.args.tags.now c.args.passwords.now c.args.starts.now c.args.lengths.now c.args.src.now c.loop-i.i c.if-src-start.false c.if-src-start-2.false c.loop-i.invariant.0, c.if-size-gt2048.false, g)
-
-pub returns : goal.returns
-returns c =
-    let e : c.loop-i.i ≡ length c.args.tags.now = omega arith in
-    rw (← e) (c.loop-i.invariant.0, c.loop-i.invariant.1, c.loop-i.invariant.2)
+    let m = c.args.memories in
+    let s = c.in_ok-rest.ensures.lookup.0 in
+    let p = c.in_ok-piece.ensures.lookup.0 in
+    let h : get_or m.lengths.now c.loop-i.i 0 ≤ length m.src.now - get_or m.starts.now c.loop-i.i 0 = omega (arith, s.3, p.1) in
+    let n : length c.in_ok-piece.piece.now ≡ get_or m.lengths.now c.loop-i.i 0 = omega (arith, p.3) in
+    let g = measured-next m.keys.form m.keys.tags.now m.keys.passwords.now m.starts.now m.lengths.now m.src.now c.loop-i.i s.0 h c.loop-i.invariant.2 c.lock_size.ensures.0 (rw n at c.length_size.ensures.0) in
+    (inside-next m.keys.form m.keys.tags.now m.keys.passwords.now m.starts.now m.lengths.now m.src.now c.loop-i.i s.0 h c.loop-i.invariant.0, c.if-size-gt2048.false, rw n g)

@@ -8,4 +8,7 @@ use Rattle.lists.specs.Handed.{held_at, inside_at}
 use Rattle.lists.proofs.sum_memories.Given as goal
 
 abbrev pub invariant-loop-i : goal.invariant-loop-i
-invariant-loop-i l = (every (inside_at l.starts l.lengths l.src) l.i ≡ true) × (l.size ≤ 2048) × (l.size ≡ length (put_all (memory l.form) (listed (held_at l.form l.tags l.passwords l.starts l.lengths l.src) l.i)))
+invariant-loop-i l =
+    (every (inside_at l.memories.starts.now l.memories.lengths.now l.memories.src.now) l.i ≡ true)
+    × (l.size ≤ 2048)
+    × (l.size ≡ length (put_all (memory l.memories.keys.form) (listed (held_at l.memories.keys.form l.memories.keys.tags.now l.memories.keys.passwords.now l.memories.starts.now l.memories.lengths.now l.memories.src.now) l.i)))

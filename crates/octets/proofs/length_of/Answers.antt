@@ -8,9 +8,6 @@ pub returns-then-s-at : goal.returns-then-s-at
 returns-then-s-at c =
     record { says = sym (length_none c.args.s.now c.args.at (omega arith)); place = tt }
 
-pub overflow_cast-a : goal.overflow_cast-a
-overflow_cast-a c = omega (arith, c.type_inv.s c.args.at)
-
 pub returns-then-a-lt128 : goal.returns-then-a-lt128
 returns-then-a-lt128 c =
     record { says = sym (length-short c.args.s.now c.args.at (omega arith) (omega arith)); place = (omega arith, omega arith, omega arith) }
@@ -22,14 +19,6 @@ returns-then-a-ge192 c =
 pub returns-then-s-at-lt2 : goal.returns-then-s-at-lt2
 returns-then-s-at-lt2 c =
     record { says = sym (length_cut c.args.s.now c.args.at (omega arith) (omega arith) (omega arith) (omega arith)); place = tt }
-
-pub overflow_cast-n : goal.overflow_cast-n
-overflow_cast-n c =
-    omega (arith, c.type_inv.s (c.args.at + 1))
-
-pub overflow_add-n : goal.overflow_add-n
-overflow_add-n c =
-    omega (arith, c.type_inv.s (c.args.at + 1))
 
 pub returns-then-n-le127 : goal.returns-then-n-le127
 returns-then-n-le127 c =

@@ -4,11 +4,11 @@ use Rattle.std.proofs.lemmas.Result.{err_from_is_err_and}
 use Rattle.octets.proofs.Frames.{enclosed-none, enclosed-profile, enclosed-length, enclosed-not, enclosed-is}
 use Rattle.octets.proofs.read_enclosed.Goals as goal
 
-pub returns-then-s-lt4 : goal.returns-then-s-lt4
-returns-then-s-lt4 c = record { says = sym (enclosed-none c.args.s.now (omega arith)); place = tt }
+pub returns-in_default : goal.returns-in_default
+returns-in_default c = record { says = sym (enclosed-none c.args.s.now (omega arith)); place = tt }
 
-pub returns-then-s-ne0 : goal.returns-then-s-ne0
-returns-then-s-ne0 c =
+pub returns-in_default-2 : goal.returns-in_default-2
+returns-in_default-2 c =
     record { says = sym (enclosed-profile c.args.s.now (omega arith) (λ e. omega arith)); place = tt }
 
 pub returns-then-left_at-n : goal.returns-then-left_at-n

@@ -1,20 +1,8 @@
-use mathlib.Core.Path.{refl, ap}
-use native.Mathlib.Omega.{arith}
-use Rattle.requests.specs.Command.{kind_of, allocate}
-use Rattle.requests.proofs.Readings.{allocation-access, decoded-bad, decoded-more, decoded-good}
+use Rattle.requests.specs.Request.{allocate}
+use Rattle.requests.proofs.Readings.{behind, under-bad, decoded-bad}
 use Rattle.requests.proofs.read_allocate.Goals as goal
 
-pub returns-then-next-s : goal.returns-then-next-s
-returns-then-next-s c =
-    let e = rw c.in-Value.is at c.read_allocation.ensures in
-    decoded-more allocate _ e.says c.if-next-s.true
-
-pub returns-in-Bad : goal.returns-in-Bad
-returns-in-Bad c =
-    let e = rw c.in-Bad.is at c.read_allocation.ensures in
-    decoded-bad allocate e.says
-
-pub returns-else-next-s : goal.returns-else-next-s
-returns-else-next-s c =
-    let e = rw c.in-Value.is at c.read_allocation.ensures in
-    decoded-good allocate _ e.says c.if-next-s.false refl (ap (kind_of allocate) (allocation-access e)) (omega (arith, e.place))
+pub returns-in_err-allocation : goal.returns-in_err-allocation
+returns-in_err-allocation c =
+    decoded-bad c.from_residual-in_err-allocation.ensures.1
+    (under-bad allocate _ (behind c.in_ok-read_allocation.ensures c.in_err-allocation.ensures))

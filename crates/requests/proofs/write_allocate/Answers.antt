@@ -1,14 +1,14 @@
-use Rattle.octets.specs.Frame.{sent, encode, writable}
-use Rattle.requests.specs.Command.{known}
-use Rattle.requests.specs.Request.{request_body}
+use mathlib.Core.Path.{◌≡◌, refl, ap, ◌∙◌}
+use Rattle.tags.specs.Entry.{form_of}
+use Rattle.resources.specs.Resource.{Grant, allocation}
+use Rattle.requests.specs.Command.{form_number}
+use Rattle.requests.specs.Request.{allocate}
+use Rattle.requests.proofs.Requests.{sent-is}
 use Rattle.requests.proofs.write_allocate.Goals as goal
 
-pub returns-in-Plain : goal.returns-in-Plain
-unfolding sent encode writable request_body known
-returns-in-Plain c =
-    rw c.in-Plain.is (rw c.in-Plain.is at c.write_allocation.ensures)
-
-pub returns-in-Password : goal.returns-in-Password
-unfolding sent encode writable request_body known
-returns-in-Password c =
-    rw c.in-Password.is c.write_allocation-in-Password.ensures
+pub returns : goal.returns
+returns c =
+    let w = form_of c.args.access in
+    let v : Grant = record { tag = c.args.tag; mode = c.args.mode; size = c.args.size; access = c.args.access; initial = c.args.initial.now } in
+    let n : c.form_number-kind.result ≡ form_number w = c.form_number-kind.ensures.0 ∙ ap form_number c.form_of.ensures.0 in
+    rw (← sent-is (allocate v) w tt (allocation w) v refl refl c.args.version c.args.out.now, ← n) c.write_allocation.ensures

@@ -1,15 +1,15 @@
-use Rattle.octets.specs.Frame.{sent, encode, writable}
-use Rattle.lists.specs.Handed.{keys_sent}
-use Rattle.requests.specs.Command.{known}
-use Rattle.requests.specs.Request.{request_body}
+use mathlib.Core.Path.{refl}
+use Rattle.octets.specs.Layout.{list_of}
+use Rattle.tags.specs.Entry.{key}
+use Rattle.lists.specs.Handed.{keys_of, keys_sent}
+use Rattle.requests.specs.Request.{bulk_read}
+use Rattle.requests.proofs.Requests.{sent-is}
 use Rattle.requests.proofs.write_bulk_read.Goals as goal
 
-pub returns-in-Plain : goal.returns-in-Plain
-unfolding sent encode writable request_body known keys_sent
-returns-in-Plain c =
-    rw c.in-Plain.is (rw c.in-Plain.is at c.write_keys.ensures)
-
-pub returns-in-Password : goal.returns-in-Password
-unfolding sent encode writable request_body known keys_sent
-returns-in-Password c =
-    rw c.in-Password.is (rw c.in-Password.is at c.write_keys-in-Password.ensures)
+pub returns : goal.returns
+unfolding keys_sent
+returns c =
+    let w = c.args.form in
+    let v = keys_of w c.args.tags.now c.args.passwords.now in
+    rw (← sent-is (bulk_read v) w tt (list_of (key w)) v refl refl c.args.version c.args.out.now, ← c.form_number-kind.ensures.0)
+    c.write_keys.ensures
