@@ -198,6 +198,8 @@ fn put_head(words: &mut [u64], head: Head)
 
 // ---- the unit
 
+// A unit is handed over as three slices, and a lock as a bool and a password, in each function: the C interface passes no struct.
+
 // Makes a unit in the lent slices, whatever they held: 0. 301 for a version above 15; 300 where a slice has not its length.
 pub fn taxeedhuul_start(
     head: &mut [u64],
@@ -410,6 +412,7 @@ pub fn taxeedhuul_write_bulk_write(
 }
 
 // ---- the gate reads: words into a lent slice. 16 where the octets are no answer, or no entry stands at the place; then 300 for too few words
+// What is told is words and a type's number, not structs and enums: the C interface passes words alone.
 
 // Puts words at the front of the lent ones, if they are enough, and tells a number.
 #[tactic(auto, unfolding(crate::specs::Gate::filled))]
