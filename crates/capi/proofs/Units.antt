@@ -70,6 +70,10 @@ is-unlent true x e = absurd (cc)
 is-unlent false x e = (refl, cc)
 
 -- what is told of a number that may be too great
+pub is-high : {A : Type 0} (b : Bool) (x : Refusal) (a : A) → ◌≡◌ {A = Result A Refusal} (Err x) (cond b (Err r.Value) (Ok a)) → (b ≡ true) × (x ≡ r.Value)
+is-high true x a e = (refl, cc)
+is-high false x a e = absurd (cc)
+
 pub is-low : {A : Type 0} (b : Bool) (y a : A) → ◌≡◌ {A = Result A Refusal} (Ok y) (cond b (Err r.Value) (Ok a)) → (b ≡ false) × (y ≡ a)
 is-low true y a e = absurd (cc)
 is-low false y a e = (refl, cc)
@@ -162,6 +166,12 @@ left-holds u h new e w d = record { kind = e; words = w ∙ ap head_words d.head
 -- ---- respond
 
 module _ (port : ℕ) (request : List ℕ) (old : Slices) (area : List ℕ) (r : ℤ) where
+  pub responds-barred : (n : ℕ) → port_line port old ≡ number n → r ≡ number_of (refused n) → Responds port request old area r old area
+  responds-barred n l e = record {
+    barred = λ m q. (e ∙ ap (λ (k : ℕ). number_of (refused k)) (same_number (sym l ∙ q)), refl, refl);
+    answered = λ q. absurd (not_none (sym l ∙ q));
+  }
+
   pub responds : (new : Slices) (area' : List ℕ) → port_line port old ≡ none
       → ((u : State) → Holds u old → Answers (respond u (port_of port) request (length area)) r area area' new) → Responds port request old area r new area'
   responds new area' l f = record { barred = λ n q. absurd (not_none (sym q ∙ l)); answered = λ q. f }

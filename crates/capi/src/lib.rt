@@ -20,7 +20,8 @@ ghost use Rattle.responder.specs.Entry.{word_of};
 ghost use Rattle.capi.specs.Result.{number, outcome_of, number_of, worded, WrittenShort, SentShort};
 ghost use Rattle.capi.specs.Slices.{slices, lent, head_words, Kept};
 ghost use Rattle.capi.specs.Calls.{port_of, access_of, form_for, Starts, Responds, Fits};
-ghost use Rattle.capi.specs.Gate.{Gives, filled, roomless, given_words, short, ReadsAnswer, ReadsTag, ReadsMemory, ReadsResource};
+ghost use Rattle.capi.specs.Gate.{Gives, filled, roomless, given_words, short};
+ghost use Rattle.capi.specs.Gate.{ReadsAnswer, ReadsTag, ReadsMemory, ReadsResource};
 
 use admission::{Denial, Head, Limits, Mode};
 use answers::{Given, Reply};
@@ -198,6 +199,8 @@ fn put_head(words: &mut [u64], head: Head)
 
 // ---- the unit
 
+// A unit comes as three slices, a lock as a bool and a password: the C interface passes no struct.
+
 // Makes a unit in the lent slices, whatever they held: 0. 301 for a version above 15; 300 where a slice has not its length.
 pub fn taxeedhuul_start(
     head: &mut [u64],
@@ -220,7 +223,8 @@ fn start(
     allocation: bool,
     passwords: bool,
 ) -> Result<u16, Refusal>
-    ensures { Starts version allocation passwords (slices head.old table.old memory.old) (number_of (outcome_of result)) (slices head.new table.new memory.new) }
+    ensures { Starts version allocation passwords (slices head.old table.old memory.old)
+        (number_of (outcome_of result)) (slices head.new table.new memory.new) }
 {
     let new = Unit::start(version, allocation, passwords).ok_or(Refusal::Version)?;
     are_lent(head, table, memory)?;
@@ -255,7 +259,8 @@ fn respond(
     answer: &mut [u8],
 ) -> Result<u16, Refusal>
     requires { Kept head.old table.old memory.old }
-    ensures { Responds port request.now (slices head.old table.old memory.old) answer.old (number_of (outcome_of result)) (slices head.new table.new memory.new) answer.new }
+    ensures { Responds port request.now (slices head.old table.old memory.old) answer.old
+        (number_of (outcome_of result)) (slices head.new table.new memory.new) answer.new }
 {
     let port = port_of(port)?;
     are_lent(head, table, memory)?;
@@ -299,7 +304,8 @@ fn fit(
     first: &[u8],
 ) -> Result<u16, Refusal>
     requires { Kept head.old table.old memory.old }
-    ensures { Fits mode (λ (u : State). fit_step u tag size (code_mode mode) spf (access_of locked password) first.now) (slices head.old table.old memory.old) (number_of (outcome_of result)) (slices head.new table.new memory.new) }
+    ensures { Fits mode (λ (u : State). fit_step u tag size (code_mode mode) spf (access_of locked password) first.now)
+        (slices head.old table.old memory.old) (number_of (outcome_of result)) (slices head.new table.new memory.new) }
 {
     let mode = mode_of(mode)?;
     are_lent(head, table, memory)?;
@@ -410,6 +416,7 @@ pub fn taxeedhuul_write_bulk_write(
 }
 
 // ---- the gate reads: words into a lent slice. 16 where the octets are no answer, or no entry stands at the place; then 300 for too few words
+// What is told is words and a type's number, not structs and enums: the C interface passes words alone.
 
 // Puts words at the front of the lent ones, if they are enough, and tells a number.
 #[tactic(auto, unfolding(crate::specs::Gate::filled))]
@@ -512,10 +519,12 @@ fn read_answer(octets: &[u8], fields: &mut [u64]) -> Result<u16, Refusal>
     }
 }
 
-// Puts the words of an entry that ends within the octets, if a list may stand in so many, and tells where the next one starts.
+// Puts the words of an entry that ends within the octets, if a list may stand in so many.
+// It tells where the next one starts.
 fn fill_entry(octets: &[u8], fields: &mut [u64], words: &[u64], next: usize) -> Result<u16, Refusal>
     requires { next ≤ length octets.now }
-    ensures { Gives (short octets.now (filled next words.now fields.old) fields.old) (number_of (outcome_of result)) fields.new }
+    ensures { Gives (short octets.now (filled next words.now fields.old) fields.old)
+        (number_of (outcome_of result)) fields.new }
 {
     if 2048 < octets.len() {
         return Err(Refusal::Value);

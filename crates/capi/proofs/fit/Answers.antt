@@ -5,6 +5,12 @@ use Rattle.capi.specs.Slices.{Slices, slices, head_words}
 use Rattle.capi.proofs.Units
 use Rattle.capi.proofs.fit.Goals as goal
 
+pub returns-in_err-mode : goal.returns-in_err-mode
+returns-in_err-mode c =
+    let x : Slices = slices c.args.head.now c.args.table.now c.args.memory.now in
+    let m = Units.is-high _ _ _ c.in_err-mode.ensures in
+    Units.fits-barred c.args.mode _ x _ 16 (Units.high-line 16 x _ m.0) (Units.handed _ _ _ c.from_residual.ensures m.1)
+
 pub returns-in_err-are_lent : goal.returns-in_err-are_lent
 returns-in_err-are_lent c =
     let x : Slices = slices c.args.head.now c.args.table.now c.args.memory.now in

@@ -6,6 +6,13 @@ use Rattle.capi.proofs.Short.{respond-sent-short}
 use Rattle.capi.proofs.Units
 use Rattle.capi.proofs.respond.Goals as goal
 
+pub returns-in_err-are_lent : goal.returns-in_err-are_lent
+returns-in_err-are_lent c =
+    let x : Slices = slices c.args.head.now c.args.table.now c.args.memory.now in
+    let p = Units.is-low _ _ _ c.in_ok-port.ensures in
+    let l = Units.is-unlent _ _ c.in_err-are_lent.ensures in
+    Units.responds-barred c.args.port c.args.request.now x c.args.answer.now _ 300 (Units.unlent-line 16 x _ p.0 l.0) (Units.handed _ _ _ c.from_residual-in_err-are_lent.ensures l.1)
+
 pub respond-reply-requires : goal.respond-reply-requires
 respond-reply-requires c =
     let k = c.requires.stands (Units.is-lent _ _ c.in_ok-are_lent.ensures) in
