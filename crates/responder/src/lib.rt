@@ -1,6 +1,7 @@
 // The responder: the unit's answer to the octets of a request, on either port.
-// Rules: document 01, 'Denials and their order' and 'Lists'. The main statement stands at `respond`: reply, answer area and unit are those of the definition `respond`
-// (specs/Respond); the three demands are specs/Demands. On the codec and the store, by their contracts.
+// Rules: document 01, 'Denials and their order' and 'Lists'. The main statement stands at `respond`: reply, answer area
+// and unit are those of the definition `respond` (specs/Respond); the three demands are specs/Demands. On the codec and
+// the store, by their contracts. A denial is handed on by `?` and written in one place, by `respond`.
 #![tactic(auto)]
 
 ghost use Rattle.std.specs.Prelude.{◌≡◌, true, List, [], ◌∷◌, ◌++◌, ℕ, ◌+◌, ◌≤◌, ◌<◌, length};
