@@ -3,6 +3,7 @@
 #![tactic(auto)]
 
 ghost use Rattle.std.specs.Prelude.{ℕ, List, ◌≡◌, ◌+◌, ◌-◌, ◌^◌, ◌<◌, ◌≤◌, length, take, drop};
+ghost use Rattle.std.proofs.lemmas.List.Edits.{sets};
 ghost use Rattle.octets.specs.Length.{encode_length};
 ghost use Rattle.octets.specs.Layout.{Layout, field_octets, size};
 ghost use Rattle.octets.specs.Number.{number, octets, width_of, version_part, fill_part, bare};
@@ -297,7 +298,7 @@ pub fn read_list<E: Entry>(s: &[u8], at: usize, entry: E) -> Reading<Entries>
 
 // ---- fields that are written: whole or not at all
 
-// Copies octets to a place, if the area has room for all of them.
+// Copies octets to a place, if the area has room for all of them. A few go one by one: the library's copy is a call.
 pub fn copy(out: &mut [u8], at: usize, src: &[u8]) -> usize
     ensures { Laid out.old at src.now out.new result }
 {
@@ -308,8 +309,21 @@ pub fn copy(out: &mut [u8], at: usize, src: &[u8]) -> usize
     if out.len() - at < n {
         return at;
     }
+    if n < 32 {
+        store_few(out, at, src);
+        return at + n;
+    }
     out[at..at + n].copy_from_slice(src);
     at + n
+}
+
+fn store_few(out: &mut [u8], at: usize, src: &[u8])
+    requires { at + length src.now ≤ length out.old }
+    ensures { out.new ≡ sets out.old at src.now }
+{
+    for i in 0..src.len() {
+        out[at + i] = src[i];
+    }
 }
 
 // Writes a length, if it has a form and the area has room for it, and says where the next field starts.
@@ -319,18 +333,30 @@ pub fn write_length(out: &mut [u8], at: usize, n: usize) -> usize
     if 16384 <= n {
         return at;
     }
-    if n < 128 {
-        return copy(out, at, &[n as u8]);
+    if left_at(out, at) < length_size(n) {
+        return at;
     }
-    copy(out, at, &[(128 + n / 256) as u8, (n % 256) as u8])
+    if n < 128 {
+        out[at] = n as u8;
+        return at + 1;
+    }
+    let i = at + 1;
+    out[at] = (128 + n / 256) as u8;
+    out[i] = (n % 256) as u8;
+    at + 2
 }
 
 // Writes the low octets of a number, as many as its field has, if the area has room for all of them.
 pub fn write_number(out: &mut [u8], at: usize, width: Width, x: u64) -> usize
     ensures { Laid out.old at (octets (width_of width) x) out.new result }
 {
+    let n = octets_of(width);
+    if left_at(out, at) < n {
+        return at;
+    }
     let eight = x.to_be_bytes();
-    copy(out, at, &eight[8 - octets_of(width)..])
+    out[at..at + n].copy_from_slice(&eight[8 - n..]);
+    at + n
 }
 
 // ---- bits of the version octet and of a tag
@@ -383,7 +409,10 @@ pub fn open_message(out: &mut [u8], version: u8, kind: u8, body: usize) -> Writt
     if out.len() < start + body {
         return Err(Unwritten::NoRoom);
     }
-    copy(out, 0, &[version << 4, 1, kind, 0]);
+    out[0] = version << 4;
+    out[1] = 1;
+    out[2] = kind;
+    out[3] = 0;
     write_length(out, 4, body);
     Ok(start)
 }
