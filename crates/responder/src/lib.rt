@@ -513,18 +513,12 @@ fn write_each(
 {
     let mut at = list.start;
     for _ in 0..list.count {
-        let Ok(
-            Taken {
-                value: memory,
-                next,
-            },
-        ) = tags::read_memory(s, at, form)
-        else {
+        let Ok(Taken { value: held, next }) = tags::read_memory(s, at, form) else {
             return;
         };
-        let src = octets::part(s, memory.span.start, memory.span.len);
-        let written = store::write(head, table, pool, memory.tag, src, port, memory.access);
-        names.note(memory.tag, written);
+        let src = octets::part(s, held.span.start, held.span.len);
+        let written = store::write(head, table, pool, held.tag, src, port, held.access);
+        names.note(held.tag, written);
         at = next;
     }
 }
