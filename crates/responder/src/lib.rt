@@ -95,6 +95,8 @@ fn first_lines(head: Head, s: &[u8]) -> Result<(), Denial>
 
 // ---- single commands
 
+// Head, table and memory come apart here and below, as the store takes them and C lends them.
+
 fn serve_allocate(
     head: Head,
     table: &mut [u64],
