@@ -1,6 +1,6 @@
 -- What a bulk read chooses, entry by entry: an entry is passed over where a single command would be denied, or where the body would have more than 2,042 octets.
 use Prim.Native.Nat.{ℕ, ◌+◌, ◌<◌, ◌≤◌}
-use mathlib.Core.Path.{◌≡◌, refl, sym, ap, ◌∙◌}
+use mathlib.Core.Path.{◌≡◌, sym, ap, ◌∙◌}
 use mathlib.Core.Bool.{true}
 use mathlib.Core.List.{List, [], ◌∷◌, ◌++◌}
 use native.Mathlib.Omega.{arith}
@@ -30,7 +30,7 @@ use Rattle.store.specs.Model.{State, Shows}
 use Rattle.store.specs.Steps.{content, read_step}
 use Rattle.store.specs.Answers.{ReadOf}
 use Rattle.admission.specs.declared.Denial.{Denial}
-use Rattle.std.specs.Prelude.{Result, Ok, Err}
+use Rattle.std.specs.Prelude.{Result, Ok}
 use Rattle.responder.specs.Respond.{named, given, all_reads, bulk_read_done}
 use Rattle.responder.specs.Entry.{Sent, sent_of, Sends, Gives, picked, Picked, Chooses}
 use Rattle.responder.specs.declared.Chosen.{Chosen}
@@ -70,55 +70,50 @@ picked-length : (c : Chosen) (pool : List ℕ) → c.count ≤ length c.tags →
 picked-length c pool h = length-listed (held_at f.Plain (take c.count c.tags) [] (take c.count c.starts)
     (take c.count c.lengths) pool) (length (take c.count c.tags)) ∙ length-take-le c.count c.tags h
 
-module _ (x : ℕ) (c : Chosen) (small : c.size ≤ 2041) where
-  -- a single command would be denied
-  pub chooses-denied : (d : Denial) → Chooses (Err d) x c c
-  chooses-denied d = record { few = omega arith; small = small; grown = λ pool l p k. (k, refl) }
+module _ (x : ℕ) (c : Chosen) (small : c.size ≤ 2041) (p : Span) (t : length c.tags ≡ 16) (few : c.count < 16) where
+  -- there is no room
+  pub chooses-over : 2041 < c.size + 8 + length (encode_length p.len) + p.len → Chooses (Ok p) x c c
+  chooses-over r = record {
+    few = omega arith;
+    small = small;
+    grown = λ pool l q k.
+        let n = picked-length c pool (omega arith) in
+        let m : length (within pool p) ≡ p.len = span-length pool p q.0 in
+        (k, sym (given-over (picked c pool) x (within pool p) (omega arith) (rw (m, k.size) r)));
+  }
 
-  module _ (p : Span) (t : length c.tags ≡ 16) (few : c.count < 16) where
-    -- there is no room
-    pub chooses-over : 2041 < c.size + 8 + length (encode_length p.len) + p.len → Chooses (Ok p) x c c
-    chooses-over r = record {
-      few = omega arith;
-      small = small;
-      grown = λ pool l q k.
-          let n = picked-length c pool (omega arith) in
-          let m : length (within pool p) ≡ p.len = span-length pool p q.0 in
-          (k, sym (given-over (picked c pool) x (within pool p) (omega arith) (rw (m, k.size) r)));
-    }
-
-    -- there is
-    pub chooses-one : (y e z : ℕ) → y ≡ bare x → e ≡ length (encode_length p.len) → length c.starts ≡ 16
-        → length c.lengths ≡ 16 → z ≡ c.size + 8 + e + p.len → z ≤ 2041
-        → Chooses (Ok p) x c (record {
-          tags = set c.tags c.count y;
-          starts = set c.starts c.count p.start;
-          lengths = set c.lengths c.count p.len;
-          count = c.count + 1;
-          size = z;
-        })
-    chooses-one y e z ey ee i j ez r =
-        let a : c.count < length c.tags = omega arith in
-        let b : c.count < length c.starts = omega arith in
-        let d : c.count < length c.lengths = omega arith in
-        record {
-          few = omega arith;
-          small = r;
-          grown = λ pool l q k.
-              let hs = picked c pool in
-              let n = picked-length c pool (omega arith) in
-              let m : length (within pool p) ≡ p.len = span-length pool p q.0 in
-              let g : picked (with_more c pool y p z a b d) pool ≡ hs ++ (named x, within pool p) ∷ [] = rw (← ey)
-              (picked_more c pool y p z a b d) in
-              let w : length (put_all (memory f.Plain) hs) + 8 + length
-              (encode_length (length (within pool p))) + length (within pool p) ≡ z = rw (m, k.size, ez, ← ee) in (
-                record {
-                  inside = inside-more c pool y p z a b d k.inside q.0;
-                  size = rw g (put-more hs x (within pool p) ∙ w);
-                },
-                g ∙ sym (given-room hs x (within pool p) (omega arith) (omega (arith, w))),
-              );
-        }
+  -- there is
+  pub chooses-one : (y e z : ℕ) → y ≡ bare x → e ≡ length (encode_length p.len) → length c.starts ≡ 16
+      → length c.lengths ≡ 16 → z ≡ c.size + 8 + e + p.len → z ≤ 2041
+      → Chooses (Ok p) x c (record {
+        tags = set c.tags c.count y;
+        starts = set c.starts c.count p.start;
+        lengths = set c.lengths c.count p.len;
+        count = c.count + 1;
+        size = z;
+      })
+  chooses-one y e z ey ee i j ez r =
+      let a : c.count < length c.tags = omega arith in
+      let b : c.count < length c.starts = omega arith in
+      let d : c.count < length c.lengths = omega arith in
+      record {
+        few = omega arith;
+        small = r;
+        grown = λ pool l q k.
+            let hs = picked c pool in
+            let n = picked-length c pool (omega arith) in
+            let m : length (within pool p) ≡ p.len = span-length pool p q.0 in
+            let g : picked (with_more c pool y p z a b d) pool ≡ hs ++ (named x, within pool p) ∷ [] = rw (← ey)
+            (picked_more c pool y p z a b d) in
+            let w : length (put_all (memory f.Plain) hs) + 8 + length
+            (encode_length (length (within pool p))) + length (within pool p) ≡ z = rw (m, k.size, ez, ← ee) in (
+              record {
+                inside = inside-more c pool y p z a b d k.inside q.0;
+                size = rw g (put-more hs x (within pool p) ∙ w);
+              },
+              g ∙ sym (given-room hs x (within pool p) (omega arith) (omega (arith, w))),
+            );
+      }
 
 -- ---- the entries in turn
 

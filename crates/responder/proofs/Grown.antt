@@ -1,5 +1,6 @@
--- Slices side by side as they grow by an entry: the first k entries, and behind them one more. Used for what is told of tags and for what a bulk read chooses.
-use Prim.Native.Nat.{ℕ, zero, suc, ◌+◌, ◌-◌, ◌<◌, ◌≤◌}
+-- Arrays side by side as they grow by an entry: the first entries, and behind them one more. Used for what is told of
+-- tags, for what a bulk read chooses and for the names that a bulk write notes.
+use Prim.Native.Nat.{ℕ, zero, suc, ◌+◌, ◌<◌, ◌≤◌}
 use mathlib.Core.Path.{◌≡◌, refl}
 use mathlib.Core.Bool.{true}
 use mathlib.Core.List.{List, [], ◌∷◌, ◌++◌}
@@ -23,7 +24,7 @@ use Rattle.responder.specs.declared.Names.{Names}
 use Rattle.responder.specs.declared.Information.{Information}
 use Rattle.responder.specs.declared.Chosen.{Chosen}
 
--- ---- one slice
+-- ---- one array
 
 module _ (l : List ℕ) (k x : ℕ) (h : k < length l) where
   -- there is one more
@@ -41,10 +42,6 @@ module _ (l : List ℕ) (k x : ℕ) (h : k < length l) where
   -- the last is the new one
   pub grown-last : get_or (take (suc k) (set l k x)) k 0 ≡ x
   grown-last = rw (take-suc-set l k x h) (get_or_at (take k l) x [] 0 k first-length)
-
--- the part of an array that has so many entries
-pub part_length : (l : List ℕ) (k : ℕ) → length l ≡ 16 → k ≤ 16 → length (take (k - 0) l) ≡ k
-part_length l k e h = let q : k - 0 ≡ k = omega arith in rw q (length-take-le k l (omega arith))
 
 -- ---- lists by their places
 

@@ -95,6 +95,8 @@ fn first_lines(head: Head, s: &[u8]) -> Result<(), Denial>
 
 // ---- single commands
 
+// Head, table and memory come apart here and below, as the store takes them and C lends them.
+
 fn serve_allocate(
     head: Head,
     table: &mut [u64],
@@ -513,18 +515,12 @@ fn write_each(
 {
     let mut at = list.start;
     for _ in 0..list.count {
-        let Ok(
-            Taken {
-                value: memory,
-                next,
-            },
-        ) = tags::read_memory(s, at, form)
-        else {
+        let Ok(Taken { value: held, next }) = tags::read_memory(s, at, form) else {
             return;
         };
-        let src = octets::part(s, memory.span.start, memory.span.len);
-        let written = store::write(head, table, pool, memory.tag, src, port, memory.access);
-        names.note(memory.tag, written);
+        let src = octets::part(s, held.span.start, held.span.len);
+        let written = store::write(head, table, pool, held.tag, src, port, held.access);
+        names.note(held.tag, written);
         at = next;
     }
 }
