@@ -3,7 +3,6 @@
 #![tactic(auto)]
 
 ghost use Rattle.std.specs.Prelude.{ℕ, List, ◌≡◌, ◌+◌, ◌-◌, ◌^◌, ◌<◌, ◌≤◌, length, take, drop};
-ghost use Rattle.std.proofs.lemmas.List.Edits.{sets};
 ghost use Rattle.octets.specs.Length.{encode_length};
 ghost use Rattle.octets.specs.Layout.{Layout, field_octets, size};
 ghost use Rattle.octets.specs.Number.{number, octets, width_of, version_part, fill_part, bare};
@@ -298,7 +297,7 @@ pub fn read_list<E: Entry>(s: &[u8], at: usize, entry: E) -> Reading<Entries>
 
 // ---- fields that are written: whole or not at all
 
-// Copies octets to a place, if the area has room for all of them. A few go one by one: the library's copy is a call.
+// Copies octets to a place, if the area has room for all of them.
 pub fn copy(out: &mut [u8], at: usize, src: &[u8]) -> usize
     ensures { Laid out.old at src.now out.new result }
 {
@@ -309,21 +308,8 @@ pub fn copy(out: &mut [u8], at: usize, src: &[u8]) -> usize
     if out.len() - at < n {
         return at;
     }
-    if n < 32 {
-        store_few(out, at, src);
-        return at + n;
-    }
     out[at..at + n].copy_from_slice(src);
     at + n
-}
-
-fn store_few(out: &mut [u8], at: usize, src: &[u8])
-    requires { at + length src.now ≤ length out.old }
-    ensures { out.new ≡ sets out.old at src.now }
-{
-    for i in 0..src.len() {
-        out[at + i] = src[i];
-    }
 }
 
 // Writes a length, if it has a form and the area has room for it, and says where the next field starts.

@@ -10,9 +10,6 @@ returns-then-out-at c = laid-not c.args.out.now c.args.at c.args.src.now (omega 
 pub returns-then-out-at-2 : goal.returns-then-out-at-2
 returns-then-out-at-2 c = laid-not c.args.out.now c.args.at c.args.src.now (omega arith)
 
-pub returns-then-n-lt32 : goal.returns-then-n-lt32
-returns-then-n-lt32 c = laid-all c.args.out.now c.args.at c.args.src.now (omega arith) c.store_few.ensures refl
-
 pub returns : goal.returns
 returns c =
     laid-all c.args.out.now c.args.at c.args.src.now (omega arith)
