@@ -11,7 +11,9 @@ ghost use Rattle.tags.specs.Entry.{form_of};
 ghost use Rattle.resources.specs.Resource.{mode_known, allocation, room, resource, resources_of, resources_sent, every_mode};
 ghost use Rattle.resources.specs.View.{ModeAt, AllocationAt, RoomAt, ResourceAt, ResourcesAt};
 
-use octets::{Access, Entries, Entry, Fault, Form, Reading, Span, Taken, Unwritten, Width, Written};
+use octets::{
+    Access, Entries, Entry, Fault, Form, Reading, Span, Taken, Unwritten, Width, Written,
+};
 
 // ---- modes
 
