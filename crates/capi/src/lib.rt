@@ -11,7 +11,6 @@ ghost use Rattle.tags.specs.Entry.{form_of};
 ghost use Rattle.lists.specs.Handed.{keys_of};
 ghost use Rattle.requests.specs.Request as b;
 ghost use Rattle.requests.specs.Request.{request, request_sent, bulk_read_sent, bulk_write_sent};
-ghost use Rattle.answers.specs.View.{given_kind};
 ghost use Rattle.admission.specs.Denial.{number as denial_number};
 ghost use Rattle.admission.specs.Mode.{code_mode};
 ghost use Rattle.store.specs.Model.{State, first_kind};
