@@ -146,7 +146,11 @@ impl<'a> Reader<'a> {
         let s = self.src;
         let at = self.at;
         let n = octets_of(width);
-        if self.left() < n {
+        // Two tests and not one of `left`: so the compiler knows that the place lies within the octets.
+        if s.len() < at {
+            return Err(Fault::Other);
+        }
+        if s.len() - at < n {
             return Err(Fault::Other);
         }
         Ok(Taken {
@@ -319,7 +323,10 @@ pub fn write_length(out: &mut [u8], at: usize, n: usize) -> usize
     if 16384 <= n {
         return at;
     }
-    if left_at(out, at) < length_size(n) {
+    if out.len() < at {
+        return at;
+    }
+    if out.len() - at < length_size(n) {
         return at;
     }
     if n < 128 {
@@ -337,7 +344,10 @@ pub fn write_number(out: &mut [u8], at: usize, width: Width, x: u64) -> usize
     ensures { Laid out.old at (octets (width_of width) x) out.new result }
 {
     let n = octets_of(width);
-    if left_at(out, at) < n {
+    if out.len() < at {
+        return at;
+    }
+    if out.len() - at < n {
         return at;
     }
     let eight = x.to_be_bytes();

@@ -93,7 +93,10 @@ pub fn put_key(out: &mut [u8], at: usize, access: Access, tag: u64) -> usize
     ensures { Laid out.old at ((key (form_of access)).put (tag, access)) out.new result }
 {
     let size = 8 + lock_size(form_of(access));
-    if octets::left_at(out, at) < size {
+    if out.len() < at {
+        return at;
+    }
+    if out.len() - at < size {
         return at;
     }
     octets::write_number(out, at, Width::Eight, tag);
@@ -148,7 +151,10 @@ pub fn put_memory(out: &mut [u8], at: usize, access: Access, tag: u64, src: &[u8
         return at;
     }
     let size = 8 + lock_size(form_of(access)) + octets::length_size(n) + n;
-    if octets::left_at(out, at) < size {
+    if out.len() < at {
+        return at;
+    }
+    if out.len() - at < size {
         return at;
     }
     let named = at + 8 + lock_size(form_of(access));

@@ -13,49 +13,39 @@ use Rattle.octets.proofs.write_length.Goals as goal
 pub returns-then-n-ge16384 : goal.returns-then-n-ge16384
 returns-then-n-ge16384 c = rw (length-octets-none c.args.n c.if-n-ge16384.true) (laid_none c.args.out.now c.args.at)
 
-pub returns-then-left_at-length_size : goal.returns-then-left_at-length_size
-returns-then-left_at-length_size c =
+pub returns-then-out-at : goal.returns-then-out-at
+returns-then-out-at c =
     let e : field_octets size c.args.n ≡ encode_length c.args.n = length-octets-are c.args.n (omega arith) in
-    rw e (laid-not c.args.out.now c.args.at (encode_length c.args.n) (omega (arith, c.length_size.ensures, c.left_at.ensures)))
+    rw e (laid-not c.args.out.now c.args.at (encode_length c.args.n) (omega arith))
+
+pub returns-then-out-at-2 : goal.returns-then-out-at-2
+returns-then-out-at-2 c =
+    let e : field_octets size c.args.n ≡ encode_length c.args.n = length-octets-are c.args.n (omega arith) in
+    rw e (laid-not c.args.out.now c.args.at (encode_length c.args.n) (omega (arith, c.length_size.ensures)))
 
 pub bounds-out-at : goal.bounds-out-at
 bounds-out-at c =
     let e = encode-short c.args.n (omega arith) in
-    omega (arith, ap length e, c.length_size.ensures, c.left_at.ensures)
-
-pub overflow_add-result : goal.overflow_add-result
-overflow_add-result c =
-    let e = encode-short c.args.n (omega arith) in
-    omega (arith, ap length e, c.length_size.ensures, c.left_at.ensures)
+    omega (arith, ap length e, c.length_size.ensures)
 
 pub returns-then-n-lt128 : goal.returns-then-n-lt128
 returns-then-n-lt128 c =
     let e : field_octets size c.args.n ≡ encode_length c.args.n = length-octets-are c.args.n (omega arith) in
     let f = encode-short c.args.n (omega arith) in
-    rw (e, f) (laid-all c.args.out.now c.args.at (c.args.n ∷ []) (omega (arith, ap length f, c.length_size.ensures, c.left_at.ensures)) refl refl)
-
-pub overflow_add-i : goal.overflow_add-i
-overflow_add-i c =
-    let e = encode-long c.args.n (omega arith) in
-    omega (arith, ap length e, c.length_size.ensures, c.left_at.ensures)
-
-pub overflow_add-result-2 : goal.overflow_add-result-2
-overflow_add-result-2 c =
-    let e = encode-long c.args.n (omega arith) in
-    omega (arith, ap length e, c.length_size.ensures, c.left_at.ensures)
+    rw (e, f) (laid-all c.args.out.now c.args.at (c.args.n ∷ []) (omega (arith, ap length f, c.length_size.ensures)) refl refl)
 
 pub bounds-out-at-2 : goal.bounds-out-at-2
 bounds-out-at-2 c =
     let e = encode-long c.args.n (omega arith) in
-    omega (arith, ap length e, c.length_size.ensures, c.left_at.ensures)
+    omega (arith, ap length e, c.length_size.ensures)
 
 pub bounds-out-i : goal.bounds-out-i
 bounds-out-i c =
     let e = encode-long c.args.n (omega arith) in
-    simp length-set (omega (arith, ap length e, c.length_size.ensures, c.left_at.ensures))
+    simp length-set (omega (arith, ap length e, c.length_size.ensures))
 
 pub returns : goal.returns
 returns c =
     let e : field_octets size c.args.n ≡ encode_length c.args.n = length-octets-are c.args.n (omega arith) in
     let f = encode-long c.args.n (omega arith) in
-    rw (e, f) (laid-all c.args.out.now c.args.at ((128 + c.args.n / 256) ∷ (c.args.n % 256) ∷ []) (omega (arith, ap length f, c.length_size.ensures, c.left_at.ensures)) (rw add-one) refl)
+    rw (e, f) (laid-all c.args.out.now c.args.at ((128 + c.args.n / 256) ∷ (c.args.n % 256) ∷ []) (omega (arith, ap length f, c.length_size.ensures)) (rw add-one) refl)

@@ -9,10 +9,15 @@ use Rattle.octets.proofs.Numbers.{octets-last, octets-eight, length-octets, stor
 use Rattle.octets.proofs.Areas.{laid-all, laid-not}
 use Rattle.octets.proofs.write_number.Goals as goal
 
-pub returns-then-left_at-n : goal.returns-then-left_at-n
-returns-then-left_at-n c =
+pub returns-then-out-at : goal.returns-then-out-at
+returns-then-out-at c =
     let e = length-octets (width_of c.args.width) c.args.x in
-    laid-not c.args.out.now c.args.at (octets (width_of c.args.width) c.args.x) (omega (arith, e, c.octets_of-n.ensures, c.left_at.ensures))
+    laid-not c.args.out.now c.args.at (octets (width_of c.args.width) c.args.x) (omega (arith, e, c.octets_of-n.ensures))
+
+pub returns-then-out-at-2 : goal.returns-then-out-at-2
+returns-then-out-at-2 c =
+    let e = length-octets (width_of c.args.width) c.args.x in
+    laid-not c.args.out.now c.args.at (octets (width_of c.args.width) c.args.x) (omega (arith, e, c.octets_of-n.ensures))
 
 pub returns : goal.returns
 returns c =
@@ -27,7 +32,7 @@ returns c =
     let l : drop (8 - w) (octets 8 x) ≡ v = rw k at (octets-last (8 - w) w x) in
     let t : take w v ≡ v = take_all w v (omega arith) in
     let p = rw (h.0, m, b, l, t) at c.copy_from_slice.ensures.after in
-    let r : w ≤ length c.args.out.now - c.args.at = omega (arith, h.0, c.left_at.ensures) in
+    let r : w ≤ length c.args.out.now - c.args.at = omega (arith, h.0) in
     laid-all c.args.out.now c.args.at v (omega arith)
     (stored-at-once c.args.out.now v _ c.args.at _ p (omega (arith, h.0)) (omega (arith, h.0)))
     (omega (arith, h.0))
