@@ -12,7 +12,8 @@ use Rattle.admission.proofs.Admitted.{is_denied}
 -- the denial with a number
 abbrev pub named : ℕ → Denial
 named n =
-    get_or (d.Version ∷ d.Room ∷ d.Tag ∷ d.List ∷ d.Mode ∷ d.Size ∷ d.Password ∷ d.Port ∷ d.Option ∷ []) (n - 4) d.Octets
+    get_or (d.Version ∷ d.Room ∷ d.Tag ∷ d.List ∷ d.Mode ∷ d.Size ∷ d.Password ∷ d.Port ∷ d.Option ∷ []) (n - 4)
+    d.Octets
 
 -- it is the denial that has the number
 pub named-number : (x : Denial) → named (number x) ≡ x

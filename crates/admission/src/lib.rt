@@ -11,12 +11,13 @@ ghost use Rattle.admission.specs.Want.{Known, is_tag, Tag, Allocate, Fit, Free, 
 
 use octets::{Access, Port};
 
-// How a tag may be used.
+// How a tag may be used, by its code in the tables where SPF is not required: 1 where reading is prohibited, 2 where
+// writing is.
 #[derive(Clone, Copy, PartialEq, Eq)]
 pub enum Mode {
-    Both,
-    ReadOnly,
-    WriteOnly,
+    Both = 0,
+    ReadOnly = 2,
+    WriteOnly = 1,
 }
 
 // The fixed limits of a kind of unit.
@@ -50,61 +51,46 @@ pub struct Attributes {
     pub lock: Access,
 }
 
-// Why a unit denies. Each variant has document 01's number, which `number` gives.
+// Why a unit denies, with document 01's number.
 #[derive(Clone, Copy, PartialEq, Eq)]
 pub enum Denial {
-    // 4: the version differs from the unit's.
-    Version,
-    // 5: no room for another tag or for its area.
-    Room,
-    // 6: the tag is registered already, is not registered, or is of the other kind.
-    Tag,
-    // 7: too many entries in a list.
-    List,
-    // 8: the mode prohibits it.
-    Mode,
-    // 9: a bad size, or data longer than the area.
-    Size,
-    // 10: a password that is missing, wrong or sent for a tag that has none.
-    Password,
-    // 11: SPF is required and the port is normal.
-    Port,
-    // 12: the operation type is not in the table, or its option is not fitted.
-    Option,
-    // 16: octets that do not decode.
-    Octets,
+    // The version differs from the unit's.
+    Version = 4,
+    // There is no room for another tag or for its area.
+    Room = 5,
+    // The tag is registered already, is not registered, or is of the other kind.
+    Tag = 6,
+    // A list has too many entries.
+    List = 7,
+    // The mode prohibits it.
+    Mode = 8,
+    // The size is bad, or the data is longer than the area.
+    Size = 9,
+    // The password is missing or another, or is sent for a tag that has none.
+    Password = 10,
+    // SPF is required and the port is normal.
+    Port = 11,
+    // The operation type is not in the table, or its option is not fitted.
+    Option = 12,
+    // The octets do not decode.
+    Octets = 16,
 }
 
 impl Denial {
     pub fn number(self) -> u8
         ensures { result ≡ number self }
     {
-        match self {
-            Denial::Version => 4,
-            Denial::Room => 5,
-            Denial::Tag => 6,
-            Denial::List => 7,
-            Denial::Mode => 8,
-            Denial::Size => 9,
-            Denial::Password => 10,
-            Denial::Port => 11,
-            Denial::Option => 12,
-            Denial::Octets => 16,
-        }
+        self as u8
     }
 }
 
 // ---- a mode's code, as in the tables
 
-// One more where reading is prohibited, two more where writing is, four more where SPF is required.
+// Four more where SPF is required. No `From`: a mode has a code only beside SPF, and the pair is no type of its own.
 pub fn mode_code(mode: Mode, spf: bool) -> u64
     ensures { (result ≡ mode_code mode spf) × (result ≤ 6) }
 {
-    match mode {
-        Mode::Both => if spf { 4 } else { 0 },
-        Mode::WriteOnly => if spf { 5 } else { 1 },
-        Mode::ReadOnly => if spf { 6 } else { 2 },
-    }
+    mode as u64 + if spf { 4 } else { 0 }
 }
 
 pub fn code_spf(code: u64) -> bool

@@ -6,7 +6,9 @@ use mathlib.Core.List.{List, ◌++◌}
 use lib.Dec.{leb, eqb}
 use borrow.Author.Tests.{eq-eqb, eqb-true}
 use Rattle.octets.specs.Reading.{ok, Octets}
-use Rattle.octets.specs.Layout.{list_of}
+use Rattle.octets.specs.Layout.{Layout, list_of}
+use Rattle.octets.specs.Frame.{sent, encode, writable}
+use Rattle.octets.specs.declared.Form.{Form}
 use Rattle.octets.specs.declared.Form.TheVariants as f
 use Rattle.octets.proofs.Places.{both, both-are}
 use Rattle.octets.proofs.Lawful.{Lawful, list_lawful, allowed-lawful, wrap-there, wrap-back}
@@ -16,9 +18,40 @@ use Rattle.resources.specs.Resource.{resources}
 use Rattle.resources.proofs.Bodies.{resources-lawful}
 use Rattle.requests.specs.Command.{Command, command_number, command_at, known}
 use Rattle.requests.specs.Command as c
-use Rattle.requests.proofs.Requests.{same-command}
-use Rattle.answers.specs.Answer.{Body, command_of, body_put, body_fits, body_get, body_of, answer_body}
+use Rattle.requests.proofs.Requests.{Listed, same-command}
+use Rattle.answers.specs.Answer.{Body, command_of, body_put, body_fits, body_get, body_of, answer_kind, answer_body, accepted, answer, answer_sent}
 use Rattle.answers.specs.Answer as b
+
+-- ---- the table of answers' types
+
+-- the type of an operation's answer has its body
+pub row : (x : Command) (w : Form) → Listed x w → answer_body (answer_kind x w) ≡ body_of x
+unfolding answer_body known
+row c.resource_information f.Plain t = refl
+row c.resource_information f.Password t = absurd t
+row c.allocate f.Plain t = refl
+row c.allocate f.Password t = refl
+row c.free f.Plain t = refl
+row c.free f.Password t = refl
+row c.read f.Plain t = refl
+row c.read f.Password t = refl
+row c.write f.Plain t = refl
+row c.write f.Password t = refl
+row c.bulk_read f.Plain t = refl
+row c.bulk_read f.Password t = refl
+row c.bulk_write f.Plain t = refl
+row c.bulk_write f.Password t = refl
+
+-- so a body that is written in the frame of its type is the answer written
+pub sent-is : (b : Body) (w : Form) → Listed (command_of b) w → {A : Type 0} (L : Layout A) (a : A)
+    → L.put a ≡ body_put b → L.fits a ≡ body_fits b
+    → {kind : ℕ} → kind ≡ answer_kind (command_of b) w → (version : ℕ) (old : List ℕ)
+    → sent L version kind a old ≡ answer_sent (accepted (answer version w b)) old
+unfolding sent encode writable
+sent-is b w t L a p f k version old =
+    rw (k, row (command_of b) w t, p, f, eq-eqb (command_number (command_of b)) (command_number (command_of b)) refl)
+
+-- ---- bodies read back
 
 -- a body that is written reads back, by the row of its command
 body-there : (x : Body) (r : List ℕ) → body_fits x ≡ true → body_get (command_of x) (body_put x ++ r) ≡ ok x r

@@ -1,24 +1,30 @@
 -- The denial: it reads back, its octets and its parts as they are read one behind the other, and which denials may be written.
 use Prim.Native.Nat.{ℕ, ◌+◌, ◌*◌, ◌/◌, ◌%◌, ◌<◌, ◌≤◌}
-use mathlib.Core.Path.{◌≡◌, refl, sym}
+use mathlib.Core.Path.{◌≡◌, refl, sym, ◌∙◌}
 use mathlib.Core.Bool.{Bool, true, false, ◌&&◌}
-use mathlib.Core.List.{List, ◌∷◌, ◌++◌}
+use mathlib.Core.List.{List, [], ◌∷◌}
 use native.Mathlib.Omega.{arith}
 use lib.ListN.{length, get_or, drop, length-append}
-use lib.Dec.{ltb, eqb}
-use borrow.Author.Tests.{eqb-true, ltb-true, lt-ltb, le-ltb, eq-eqb, ne_eqb}
-use Rattle.octets.specs.Reading.{Read, bad, ok, and_then}
+use lib.Dec.{ltb, leb, eqb}
+use borrow.Author.Tests.{le-leb, leb-true, leb-false, eqb-true, ltb-true, lt-ltb, le-ltb, eq-eqb, ne_eqb}
+use Rattle.octets.specs.Reading.{Read, bad, ok, and_then, at_end}
 use Rattle.octets.specs.Length.{encode_length}
-use Rattle.octets.specs.Number.{octets, decode_number, fill_part, version_part}
+use Rattle.octets.specs.Number.{octets, number, decode_number, fill_part, version_part}
 use Rattle.octets.specs.Layout.{numeral, data', seq, only}
 use Rattle.octets.specs.View.{within, DataAt}
-use Rattle.octets.specs.declared.Data.TheVariants.{Value}
+use Rattle.std.specs.Prelude.{Ok, Err}
+use Rattle.octets.specs.declared.Taken.{Taken}
+use Rattle.octets.specs.declared.Fault.{Fault}
 use Rattle.octets.specs.declared.Fault.TheVariants.{Other}
 use Rattle.octets.specs.declared.Span.{Span}
-use Rattle.octets.proofs.Places.{both}
+use Rattle.octets.proofs.Places.{here, both, false-true, end_more}
+use Rattle.octets.proofs.Lengths.{encode-short}
 use Rattle.octets.proofs.Numbers.{length-octets}
 use Rattle.octets.proofs.Spans.{span-length}
 use Rattle.octets.proofs.Lawful.{Lawful, numeral-lawful, data-lawful, seq-lawful, via-lawful, only-lawful}
+use Rattle.requests.proofs.Readings.{fault-told}
+use Rattle.answers.specs.Answer.{is_denial}
+use Rattle.answers.specs.View.{DenialOf}
 use Rattle.answers.specs.Denial.{version_octet, exactly, supplement, Denial, denial_parts, denial_of, denial}
 
 -- ---- what is written reads back, and only that is read
@@ -63,12 +69,13 @@ pub length-denial : (d : Denial) → length (denial.put d) ≡ 3 + length (encod
 length-denial d = simp (length-append, length-octets) (omega arith)
 
 -- those of a denial that may be written, one behind the other
-pub denial-parts : (d : Denial) → d.version ≤ 15 → d.status < 256 → denial.put d ≡ (d.version * 16) ∷ 255 ∷ d.status ∷ encode_length (length d.supplement) ++ d.supplement
+pub denial-parts : (d : Denial) → d.version ≤ 15 → d.status < 256 → length d.supplement ≤ 127
+    → denial.put d ≡ (d.version * 16) ∷ 255 ∷ d.status ∷ length d.supplement ∷ d.supplement
 unfolding octets
-denial-parts d v s =
+denial-parts d v s n =
     let a : d.version * 16 / 1 % 256 ≡ d.version * 16 = omega arith in
     let b : d.status / 1 % 256 ≡ d.status = omega arith in
-    rw (a, b)
+    rw (a, b, encode-short (length d.supplement) (omega arith))
 
 -- ---- a denial, read part by part
 
@@ -99,22 +106,79 @@ module _ (l : List ℕ) (x : ℕ) (t : List ℕ) (e : ok x t ≡ decode_number 1
   pub past-mark : (v : ℕ) → x ≡ 255 → from_mark v l ≡ from_status v t
   past-mark v z = rw (← e, eq-eqb 255 x (sym z))
 
-  -- any other octet there is not
-  pub mark-bad : (v : ℕ) → (x ≡ 255 → ⊥) → from_mark v l ≡ bad Other
-  mark-bad v z = rw (← e, ne_eqb 255 x (λ p. z (sym p)))
-
   -- any octet behind the mark is the status
   pub past-status : (v : ℕ) → from_status v l ≡ from_supplement v x t
   past-status v = rw (← e)
 
-module _ (v y : ℕ) {s : List ℕ} {at : ℕ} {p : Span} {next : ℕ} (e : DataAt s at (Value p next)) where
+module _ (v y : ℕ) {s : List ℕ} (at : ℕ) {t : Taken Span} (e : DataAt s at (Ok t)) where
   -- data of at most 127 octets is the supplement
-  pub past-supplement : p.len ≤ 127 → from_supplement v y (drop at s) ≡ ok (record { version = v; status = y; supplement = within s p }) (drop next s)
-  past-supplement h = rw (← e.says, lt-ltb (length (within s p)) 128 (omega (arith, span-length s p (omega (arith, e.place)))))
+  pub past-supplement : t.value.len ≤ 127
+      → from_supplement v y (drop at s) ≡ ok (record { version = v; status = y; supplement = within s t.value }) (drop t.next s)
+  past-supplement h =
+      rw (
+        ← e.says,
+        lt-ltb (length (within s t.value)) 128
+            (omega (arith, span-length s t.value (omega (arith, e.place)))),
+      )
 
   -- longer data is not
-  pub supplement-bad : 127 < p.len → from_supplement v y (drop at s) ≡ bad Other
-  supplement-bad h = rw (← e.says, le-ltb (length (within s p)) 128 (omega (arith, span-length s p (omega (arith, e.place)))))
+  pub supplement-bad : 127 < t.value.len → from_supplement v y (drop at s) ≡ bad Other
+  supplement-bad h =
+      rw (
+        ← e.says,
+        le-ltb (length (within s t.value)) 128
+            (omega (arith, span-length s t.value (omega (arith, e.place)))),
+      )
+
+  -- nor is data with octets behind it
+  pub supplement-behind : t.next < length s → at_end (from_supplement v y (drop at s)) ≡ bad Other
+  supplement-behind h = go (leb t.value.len 127) refl
+    where
+      go : (b : Bool) → leb t.value.len 127 ≡ b → at_end (from_supplement v y (drop at s)) ≡ bad Other
+      go true q =
+          rw (past-supplement (leb-true _ _ q))
+          (end_more s (record { version = v; status = y; supplement = within s t.value }) t.next h)
+      go false q = rw (supplement-bad (leb-false _ _ q))
+
+-- an octet that stands at a place
+octet-there : (s : List ℕ) (at : ℕ) → at < length s → ok (get_or s at 0) (drop (at + 1) s) ≡ decode_number 1 (drop at s)
+unfolding decode_number number
+octet-there s at h =
+    let q : 1 ≤ length (get_or s at 0 ∷ drop (at + 1) s) = omega arith in
+    let e : get_or s at 0 * 1 + 0 ≡ get_or s at 0 = omega arith in
+    rw (here s at h, le-leb 1 (length (get_or s at 0 ∷ drop (at + 1) s)) q, e)
+
+-- an octet whose fill bits are not zero is first in no denial
+pub denial-fill : (s : List ℕ) → 0 < length s → (get_or s 0 0 % 16 ≡ 0 → ⊥) → denial.get s ≡ bad Other
+denial-fill s h z = fill-bad s (get_or s 0 0) (drop 1 s) (octet-there s 0 h) z
+
+-- behind one whose fill bits are zero, and behind 255 and the status, stands the supplement
+pub denial-on : (s : List ℕ) → 3 ≤ length s → get_or s 0 0 % 16 ≡ 0 → is_denial s ≡ true
+    → denial.get s ≡ from_supplement (get_or s 0 0 / 16) (get_or s 2 0) (drop 3 s)
+denial-on s h z m =
+    past-version s (get_or s 0 0) (drop 1 s) (octet-there s 0 (omega arith)) z
+    ∙ past-mark (drop 1 s) (get_or s 1 0) (drop 2 s) (octet-there s 1 (omega arith)) _ (eqb-true _ _ m)
+    ∙ past-status (drop 2 s) (get_or s 2 0) (drop 3 s) (octet-there s 2 (omega arith)) _
+
+-- what reads as no denial is told so
+pub denial-refused : {s : List ℕ} {f : Fault} → at_end (denial.get s) ≡ bad f → DenialOf s (Err f)
+denial-refused {s} {f} e = record { says = rw e (fault-told f); place = tt }
+
+-- two octets are no denial
+pub denial-cut : (s : List ℕ) → length s < 3 → is_denial s ≡ true → denial.get s ≡ bad Other
+unfolding decode_number
+denial-cut [] h m = absurd (false-true m)
+denial-cut (v ∷ []) h m = absurd (false-true m)
+denial-cut (v ∷ x ∷ []) h m = go (eqb (v % 16) 0) refl
+  where
+    go : (b : Bool) → eqb (v % 16) 0 ≡ b → denial.get (v ∷ x ∷ []) ≡ bad Other
+    go true t =
+        past-version (v ∷ x ∷ []) v (x ∷ []) (octet-there (v ∷ x ∷ []) 0 (omega arith)) (eqb-true _ _ t)
+        ∙ past-mark (x ∷ []) x [] (octet-there (v ∷ x ∷ []) 1 (omega arith)) _ (eqb-true _ _ m)
+    go false t =
+        fill-bad (v ∷ x ∷ []) v (x ∷ []) (octet-there (v ∷ x ∷ []) 0 (omega arith))
+        (λ q. false-true (sym t ∙ eq-eqb (v % 16) 0 q))
+denial-cut (v ∷ x ∷ y ∷ l) h m = absurd (omega arith)
 
 -- ---- which denials may be written
 

@@ -12,7 +12,8 @@ use Rattle.octets.specs.Frame.{Message, decode, encode, opening}
 use Rattle.octets.specs.declared.Fault.TheVariants.{Other}
 use Rattle.octets.proofs.Places.{bad-ok, ok-val, ok-rest, told-ok, went, end_back}
 use Rattle.octets.specs.Area.{Does, described}
-use Rattle.octets.specs.declared.Written.TheVariants.{Done}
+use Rattle.octets.specs.declared.Fault.{Fault}
+use Rattle.std.specs.Prelude.{Result, Ok}
 use Rattle.octets.proofs.Lengths.{encode-some}
 use Rattle.octets.proofs.Areas.{written-front}
 use Rattle.octets.proofs.Frames.{written-reads, read-written, read_whole, receive-is, receive_all}
@@ -89,7 +90,8 @@ answer-read-written s a o e =
     answer_back s a o (x.1 ∙ ap (λ (r : List ℕ). ok a r) (answer-whole s a x.0 x.1))
 
 -- the same of the code: what a writer of answers wrote, from slices that describe an answer or directly, the reader tells as that answer or denial
-pub answer-trip : (b : Bool) (a : Answer) (old new : List ℕ) (n : ℕ) (r : Reply) → Does (described b (answer_sent a old) old) (Done n) new → Understood (take n new) r
+pub answer-trip : (b : Bool) (a : Answer) (old new : List ℕ) (n : ℕ) (r : Result Reply Fault)
+    → Does (described b (answer_sent a old) old) (Ok n) new → Understood (take n new) r
     → reply_in (take n new) r ≡ message a
 answer-trip true a old new n r d u =
     let x = written-front (answer_writable a) (answer_octets a) old new n d in
@@ -97,5 +99,6 @@ answer-trip true a old new n r d u =
 answer-trip false a old new n r d u = let x = d.says in let z : ◌≡◌ {A = ℕ} 0 1 = cc in absurd (omega arith)
 
 -- and what the reader tells as an answer or denial is written again as those octets
-pub answer-again : (s : List ℕ) (a : Answer) (r : Reply) → Octets s → Understood s r → reply_in s r ≡ message a → (s ≡ answer_octets a) × (answer_writable a ≡ true)
+pub answer-again : (s : List ℕ) (a : Answer) (r : Result Reply Fault) → Octets s → Understood s r
+    → reply_in s r ≡ message a → (s ≡ answer_octets a) × (answer_writable a ≡ true)
 answer-again s a r o u e = answer-read-written s a o (sym u.says ∙ e)

@@ -8,8 +8,11 @@ use native.Mathlib.Omega.{arith}
 use lib.Dec.{leb}
 use borrow.Author.Tests.{le-leb, lt-leb}
 use Rattle.octets.specs.Reading.{Octets, Told, message, refused}
+use Rattle.std.specs.Prelude.{Result, Ok, Err}
+use Rattle.octets.specs.declared.Fault.{Fault}
 use Rattle.octets.specs.declared.Form.{Form}
 use Rattle.octets.specs.declared.Form.TheVariants as f
+use Rattle.octets.specs.declared.Span.{Span}
 use Rattle.octets.proofs.Spans.{span_at, list_at, span-is, list-is}
 use Rattle.tags.specs.Entry.{key, memory}
 use Rattle.tags.proofs.Entries.{key-lawful, memory-lawful}
@@ -39,10 +42,10 @@ placed_given s kind (b.write k) = g.Write (answer_form kind) k.0
 placed_given s kind (b.bulk_read hs) = g.BulkRead (answer_form kind) (list_at (memory f.Plain) s hs)
 placed_given s kind (b.bulk_write ks) = g.BulkWrite (answer_form kind) (list_at (key f.Plain) s ks)
 
-abbrev placed : List ℕ → Told Answer → Reply
-placed s (message (accepted m)) = r.Accepted m.version (placed_given s m.kind m.body)
-placed s (message (denied d)) = r.Denied d.version d.status (span_at s d.supplement)
-placed s (refused n fault) = r.Bad fault
+abbrev placed : List ℕ → Told Answer → Result Reply Fault
+placed s (message (accepted m)) = Ok (r.Accepted m.version (placed_given s m.kind m.body))
+placed s (message (denied d)) = Ok (r.Denied d.version d.status (span_at s d.supplement))
+placed s (refused n fault) = Err fault
 
 -- ---- every answer is it
 
@@ -62,14 +65,14 @@ module _ (s : List ℕ) where
     given_is (g.BulkRead w list) h = rw (form-is 5 w (omega arith) (omega arith), list-is s (memory f.Plain) (memory-lawful f.Plain) o list h.0 h.1)
     given_is (g.BulkWrite w list) h = rw (form-is 6 w (omega arith) (omega arith), list-is s (key f.Plain) (key-lawful f.Plain) o list h.0 h.1)
 
-    reply-is : (x : Reply) → ReplyPlace s x → placed s (reply_in s x) ≡ x
-    reply-is (r.Accepted version x) h = ap (r.Accepted version) (given_is x h.1)
-    reply-is (r.Denied version status p) h = ap (r.Denied version status) (span-is s p h.1)
-    reply-is (r.Bad fault) h = refl
+    reply-is : (x : Result Reply Fault) → ReplyPlace s x → placed s (reply_in s x) ≡ x
+    reply-is (Ok (r.Accepted version x)) h = ap (λ (g : Given). Ok (r.Accepted version g)) (given_is x h.1)
+    reply-is (Ok (r.Denied version status p)) h = ap (λ (q : Span). Ok (r.Denied version status q)) (span-is s p h.1)
+    reply-is (Err fault) h = refl
 
 -- ---- the promises
 
-module _ {s : List ℕ} {x y : Reply} (o : Octets s) where
+module _ {s : List ℕ} {x y : Result Reply Fault} (o : Octets s) where
   -- read_answer: one answer or denial with its values and their places, or one fault
   pub answer-unique : Understood s x → Understood s y → x ≡ y
   answer-unique p q = sym (reply-is s o x p.place) ∙ ap (placed s) (p.says ∙ sym q.says) ∙ reply-is s o y q.place

@@ -1,17 +1,17 @@
 -- What the answers of the reader say of the octets s: document 01's number and values for each case. And where their parts lie: at the end of s.
 -- Together they leave one answer (proofs/Unique).
-use Rattle.std.specs.Prelude.{ℕ, ◌+◌, ◌<◌, ◌≡◌, List, [], length, drop, Result, Ok, Err}
-use Rattle.octets.specs.Reading.{Read, bad, ok, and_then, at_end, Told, message, refused, told, fault_number}
+use Rattle.std.specs.Prelude.{ℕ, ◌+◌, ◌<◌, ◌≡◌, List, length, drop, Result, Ok, Err}
+use Rattle.octets.specs.Reading.{ok, and_then, at_end, Told, message, refused, told, fault_number}
 use Rattle.octets.specs.View.{within, entries_in}
 use Rattle.octets.specs.declared.Access.TheVariants.{Plain}
 use Rattle.octets.specs.declared.Fault.{Fault}
 use Rattle.octets.specs.declared.Form.{Form}
 use Rattle.octets.specs.declared.Form.TheVariants as f
-use Rattle.tags.specs.Entry.{key, memory}
+use Rattle.tags.specs.Entry.{Keyed, key, memory}
 use Rattle.resources.specs.Resource.{resource}
 use Rattle.requests.specs.Command.{Command}
 use Rattle.requests.specs.Command as c
-use Rattle.requests.specs.View.{ListEnds}
+use Rattle.requests.specs.View.{whole_in, ListEnds}
 use Rattle.answers.specs.Denial.{denial}
 use Rattle.answers.specs.Answer.{Body, body_of, answer_kind, answer_body, answer_read, Answer, accepted, denied}
 use Rattle.answers.specs.Answer as b
@@ -52,24 +52,23 @@ GivenPlace s (g.BulkWrite w list) = ListEnds (key f.Plain) s list
 
 -- ---- a body, from a place to the last octet
 
--- a body that was read to the last octet; or a fault
-abbrev pub decoded_in : List ℕ → Result Given Fault → Read Body
-decoded_in s (Ok x) = ok (given_body s x) []
-decoded_in s (Err f) = bad f
+-- a tag as an answer names it
+abbrev pub plain_tag : ℕ → Keyed
+plain_tag tag = (tag, Plain)
 
--- it is of that answer's type, and its part ends where s ends
+-- a body is of that answer's type, and its part ends where s ends
 abbrev pub DecodedPlace : List ℕ → ℕ → Result Given Fault → Type 0
 DecodedPlace s kind (Ok x) = (given_kind x ≡ kind) × GivenPlace s x
 DecodedPlace s kind (Err f) = Unit {0}
 
 -- what reading the answer to one operation at a place answers
 pub record DecodedAs (x : Command) (w : Form) (s : List ℕ) (at : ℕ) (r : Result Given Fault) : Type 0 where
-  pub says : decoded_in s r ≡ at_end ((body_of x).get (drop at s))
+  pub says : whole_in (given_body s) r ≡ at_end ((body_of x).get (drop at s))
   pub place : DecodedPlace s (answer_kind x w) r
 
 -- what reading the body of an answer's type at a place answers
 pub record DecodedAt (kind : ℕ) (s : List ℕ) (at : ℕ) (r : Result Given Fault) : Type 0 where
-  pub says : decoded_in s r ≡ at_end ((answer_body kind).get (drop at s))
+  pub says : whole_in (given_body s) r ≡ at_end ((answer_body kind).get (drop at s))
   pub place : DecodedPlace s kind r
 
 -- ---- a whole answer

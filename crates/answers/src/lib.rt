@@ -3,16 +3,20 @@
 // resources, by their contracts; the table of operations is that of requests.
 #![tactic(auto)]
 
-ghost use Rattle.std.specs.Prelude.{[]};
+ghost use Rattle.std.specs.Prelude.{[], ◌≡◌, ◌-◌, true, drop};
+ghost use Rattle.octets.specs.Reading.{at_end};
 ghost use Rattle.octets.specs.Area.{Does};
+ghost use Rattle.tags.specs.Entry.{key};
 ghost use Rattle.lists.specs.Handed.{keys_of};
 ghost use Rattle.requests.specs.Command as c;
+ghost use Rattle.requests.specs.View.{whole_in};
 ghost use Rattle.answers.specs.Denial.{denial_sent};
 ghost use Rattle.answers.specs.Answer as b;
-ghost use Rattle.answers.specs.Answer.{answer, accepted, answer_sent, resource_information_sent, bulk_read_sent};
-ghost use Rattle.answers.specs.View.{DecodedAs, DecodedAt, DenialOf, Understood};
+ghost use Rattle.answers.specs.Answer.{is_denial, answer, accepted, answer_sent};
+ghost use Rattle.answers.specs.Answer.{resource_information_sent, bulk_read_sent};
+ghost use Rattle.answers.specs.View.{plain_tag, DecodedAs, DecodedAt, DenialOf, Understood};
 
-use octets::{Access, Entries, Fault, Form, Heading, Span, Taken, Unwritten, Width, Written};
+use octets::{Access, Entries, Fault, Form, Heading, Span, Unwritten, Written};
 use requests::form_number;
 use resources::Room;
 
@@ -49,10 +53,7 @@ pub fn read_answer(s: &[u8]) -> Result<Reply, Fault>
     if 2048 < s.len() {
         return Err(Fault::Other);
     }
-    if s.len() < 2 {
-        return Err(Fault::Other);
-    }
-    if s[1] == 255 {
+    if is_denial(s) {
         return read_denial(s);
     }
     let Heading { version, kind } = octets::read_heading(s)?;
@@ -65,66 +66,62 @@ pub fn read_answer(s: &[u8]) -> Result<Reply, Fault>
 fn read_body(s: &[u8], at: usize, kind: u8) -> Result<Given, Fault>
     ensures { DecodedAt kind s.now at result }
 {
+    let form = form_at(kind);
     match kind {
         128 => read_resources(s, at),
-        129 => read_allocate(s, at, Form::Plain),
-        130 => read_free(s, at, Form::Plain),
-        131 => read_read(s, at, Form::Plain),
-        132 => read_write(s, at, Form::Plain),
-        133 => read_bulk_read(s, at, Form::Plain),
-        134 => read_bulk_write(s, at, Form::Plain),
-        193 => read_allocate(s, at, Form::Password),
-        194 => read_free(s, at, Form::Password),
-        195 => read_read(s, at, Form::Password),
-        196 => read_write(s, at, Form::Password),
-        197 => read_bulk_read(s, at, Form::Password),
-        198 => read_bulk_write(s, at, Form::Password),
+        129 | 193 => Ok(Given::Allocate(form, read_tag(s, at)?)),
+        130 | 194 => Ok(Given::Free(form, read_tag(s, at)?)),
+        131 | 195 => read_read(s, at, form),
+        132 | 196 => Ok(Given::Write(form, read_tag(s, at)?)),
+        133 | 197 => read_bulk_read(s, at, form),
+        134 | 198 => read_bulk_write(s, at, form),
         0..=127 | 135..=192 | 199..=255 => Err(Fault::Other),
+    }
+}
+
+// Whether an answer's type is that of a request with a password.
+fn form_at(kind: u8) -> Form
+    ensures { result ≡ c.form_at (kind - 128) }
+{
+    if kind < 193 {
+        Form::Plain
+    } else {
+        Form::Password
     }
 }
 
 // ---- the denial
 
+// Whether octets are a denial or nothing: their second is 255.
+fn is_denial(s: &[u8]) -> bool
+    ensures { result ≡ is_denial s.now }
+{
+    matches!(*s, [_, 255, ..])
+}
+
 // The denial that octets are.
 fn read_denial(s: &[u8]) -> Result<Reply, Fault>
+    requires { is_denial s.now ≡ true }
     ensures { DenialOf s.now result }
 {
-    let Taken {
-        value: octet,
-        next: a,
-    } = octets::read_number(s, 0, Width::One)?;
-    if octets::fill_of(octet as u8) != 0 {
+    let [first, _, status, ..] = *s else {
+        return Err(Fault::Other);
+    };
+    if octets::fill_of(first) != 0 {
         return Err(Fault::Other);
     }
-    let Taken {
-        value: mark,
-        next: b,
-    } = octets::read_number(s, a, Width::One)?;
-    if mark != 255 {
-        return Err(Fault::Other);
-    }
-    let Taken {
-        value: status,
-        next: c,
-    } = octets::read_number(s, b, Width::One)?;
-    let Taken {
-        value: supplement,
-        next: end,
-    } = octets::read_data(s, c)?;
+    let supplement = octets::read_data(s, 3)?.to_end(s)?;
     if 127 < supplement.len {
         return Err(Fault::Other);
     }
-    if end < s.len() {
-        return Err(Fault::Other);
-    }
     Ok(Reply::Denied {
-        version: octets::version_of(octet as u8),
-        status: status as u8,
+        version: octets::version_of(first),
+        status,
         supplement,
     })
 }
 
-// A denial with any status and a supplement of at most 127 octets.
+// A denial with any status, so that it is a number, and a supplement of at most 127 octets.
 pub fn write_denial(out: &mut [u8], version: u8, status: u8, supplement: &[u8]) -> Written
     ensures { Does (denial_sent (record { version = version; status = status; supplement = supplement.now }) out.old) result out.new }
 {
@@ -138,10 +135,7 @@ pub fn write_denial(out: &mut [u8], version: u8, status: u8, supplement: &[u8]) 
     if out.len() < 4 + n {
         return Err(Unwritten::NoRoom);
     }
-    out[0] = version << 4;
-    out[1] = 255;
-    out[2] = status;
-    let at = octets::write_length(out, 3, n);
+    let at = octets::copy(out, 0, &[version << 4, 255, status, n as u8]);
     Ok(octets::copy(out, at, supplement))
 }
 
@@ -154,7 +148,8 @@ fn read_resources(s: &[u8], at: usize) -> Result<Given, Fault>
     Ok(Given::Resources(told.room, told.list))
 }
 
-// What a unit can take, and for each tag of the list its mode, data size and area size. Where the slices are not of one length, 16.
+// What a unit can take, and for each tag of the list its mode, data size and area size. Where the slices are not of
+// one length, 16. They stand side by side, here and in write_bulk_read: so the C interface hands them over.
 pub fn write_resources(
     out: &mut [u8],
     version: u8,
@@ -169,13 +164,13 @@ pub fn write_resources(
     resources::write_resources(out, version, 128, room, tags, modes, held, sizes)
 }
 
-// ---- allocate
+// ---- allocate, free and write
 
-fn read_allocate(s: &[u8], at: usize, form: Form) -> Result<Given, Fault>
-    ensures { DecodedAs c.allocate form s.now at result }
+// A tag without a password, from a place to the last octet.
+fn read_tag(s: &[u8], at: usize) -> Result<u64, Fault>
+    ensures { whole_in plain_tag result ≡ at_end ((key Form.Plain).get (drop at s.now)) }
 {
-    let key = tags::read_key(s, at, Form::Plain)?.to_end(s)?;
-    Ok(Given::Allocate(form, key.tag))
+    Ok(tags::read_key(s, at, Form::Plain)?.to_end(s)?.tag)
 }
 
 pub fn write_allocate(out: &mut [u8], version: u8, form: Form, tag: u64) -> Written
@@ -185,19 +180,17 @@ pub fn write_allocate(out: &mut [u8], version: u8, form: Form, tag: u64) -> Writ
     tags::write_key(out, version, kind, Access::Plain, tag)
 }
 
-// ---- free
-
-fn read_free(s: &[u8], at: usize, form: Form) -> Result<Given, Fault>
-    ensures { DecodedAs c.free form s.now at result }
-{
-    let key = tags::read_key(s, at, Form::Plain)?.to_end(s)?;
-    Ok(Given::Free(form, key.tag))
-}
-
 pub fn write_free(out: &mut [u8], version: u8, form: Form, tag: u64) -> Written
     ensures { Does (answer_sent (accepted (answer version form (b.free (tag, Access.Plain)))) out.old) result out.new }
 {
     let kind = 130 + form_number(form);
+    tags::write_key(out, version, kind, Access::Plain, tag)
+}
+
+pub fn write_write(out: &mut [u8], version: u8, form: Form, tag: u64) -> Written
+    ensures { Does (answer_sent (accepted (answer version form (b.write (tag, Access.Plain)))) out.old) result out.new }
+{
+    let kind = 132 + form_number(form);
     tags::write_key(out, version, kind, Access::Plain, tag)
 }
 
@@ -217,22 +210,6 @@ pub fn write_read(out: &mut [u8], version: u8, form: Form, tag: u64, src: &[u8])
     tags::write_memory(out, version, kind, Access::Plain, tag, src)
 }
 
-// ---- write
-
-fn read_write(s: &[u8], at: usize, form: Form) -> Result<Given, Fault>
-    ensures { DecodedAs c.write form s.now at result }
-{
-    let key = tags::read_key(s, at, Form::Plain)?.to_end(s)?;
-    Ok(Given::Write(form, key.tag))
-}
-
-pub fn write_write(out: &mut [u8], version: u8, form: Form, tag: u64) -> Written
-    ensures { Does (answer_sent (accepted (answer version form (b.write (tag, Access.Plain)))) out.old) result out.new }
-{
-    let kind = 132 + form_number(form);
-    tags::write_key(out, version, kind, Access::Plain, tag)
-}
-
 // ---- bulk read
 
 fn read_bulk_read(s: &[u8], at: usize, form: Form) -> Result<Given, Fault>
@@ -242,8 +219,8 @@ fn read_bulk_read(s: &[u8], at: usize, form: Form) -> Result<Given, Fault>
     Ok(Given::BulkRead(form, list))
 }
 
-// The tags that were read, each with its data: that of entry i is the part of `src` that starts at start i and has length i. Where the slices are not of one
-// length, or a part does not lie within `src`, 16.
+// The tags that were read, each with its data: that of entry i is the part of `src` that starts at start i and has
+// length i. Where the slices are not of one length, or a part does not lie within `src`, 16.
 pub fn write_bulk_read(
     out: &mut [u8],
     version: u8,

@@ -3,22 +3,20 @@ use Prim.Native.Nat.{ℕ}
 use mathlib.Core.Path.{◌≡◌, refl, ◌∙◌}
 use mathlib.Core.Bool.{Bool, true, false, cond}
 use mathlib.Core.List.{List, ◌++◌}
-use native.Mathlib.Omega.{arith}
 use lib.IntN.{ℤ, negsuc}
 use lib.ListN.{length, drop}
 use lib.Dec.{ltb}
 use Rattle.octets.specs.Area.{Outcome, done, refused, written, described}
 use Rattle.octets.specs.declared.Access.{Access}
+use Rattle.octets.specs.View.{Reading}
+use Rattle.octets.specs.declared.Fault.{Fault}
 use Rattle.octets.specs.declared.Form.{Form}
 use Rattle.octets.specs.declared.Port.TheVariants.{Secure}
 use Rattle.octets.specs.Frame.{Message}
 use Rattle.tags.specs.declared.Key.{Key}
-use Rattle.tags.specs.declared.Key.TheVariants as k
 use Rattle.tags.specs.declared.Memory.{Memory}
-use Rattle.tags.specs.declared.Memory.TheVariants as m
 use Rattle.lists.specs.Handed.{agrees, belong, keys_of, held_of}
-use Rattle.resources.specs.declared.ResourceRead.{ResourceRead}
-use Rattle.resources.specs.declared.ResourceRead.TheVariants as e
+use Rattle.resources.specs.declared.Resource.{Resource}
 use Rattle.requests.specs.Request.{Body, bulk_read, bulk_write, request_writable, request_octets, request, request_sent, bulk_read_sent, bulk_write_sent}
 use Rattle.answers.specs.View.{given_kind}
 use Rattle.answers.specs.declared.Reply.{Reply}
@@ -29,7 +27,8 @@ use Rattle.admission.specs.Denial.{Verdict, Allowed, Denied}
 use Rattle.store.specs.Model.{State, Tag}
 use Rattle.store.specs.Steps.{verdict, acted, asked, more, fit_step}
 use Rattle.responder.specs.Entry.{word_for, area_for}
-use Rattle.responder.specs.Respond.{Result, silent, replied, respond}
+use Rattle.responder.specs.Respond.{Result as Answered, silent, replied, respond}
+use Rattle.std.specs.Prelude.{Result, Ok, Err}
 use Rattle.responder.proofs.Refusals.{silence-keeps}
 use Rattle.capi.specs.Result.{number_of, judged, worded}
 use Rattle.capi.specs.Slices.{Slices, Holds, Kept}
@@ -39,7 +38,7 @@ use Rattle.capi.proofs.Unique.{line-case, none_lent, holds-unique}
 
 -- what went well is no negative number
 well-not : {n k : ℕ} {r : ℤ} → r ≡ number_of (done n) → r ≡ negsuc k → ⊥
-well-not a b = let z : ◌≡◌ {A = ℕ} 0 1 = cc in omega arith
+well-not a b = cc
 
 -- ---- the unit
 
@@ -48,7 +47,7 @@ module _ (version : ℕ) (allocation passwords : Bool) (old : Slices) (r : ℤ) 
   start-refused a k q = line-case (new ≡ old) (start_line version old) (λ n e. (a.barred n e).1) (λ e. absurd (well-not (a.made e).0 q))
 
 module _ (port : ℕ) (s : List ℕ) (old : Slices) (kept : Kept old.head old.table old.memory) (area : List ℕ) (r : ℤ) (new : Slices) (area' : List ℕ) where
-  silent-leaves : (u : State) → Holds u old → (o : Result) → (respond u (port_of port) s (length area)).result ≡ o → r ≡ number_of (worded (word_for o))
+  silent-leaves : (u : State) → Holds u old → (o : Answered) → (respond u (port_of port) s (length area)).result ≡ o → r ≡ number_of (worded (word_for o))
       → area' ≡ area_for o area → Holds (respond u (port_of port) s (length area)).unit new → (k : ℕ) → r ≡ negsuc k → (new ≡ old) × (area' ≡ area)
   silent-leaves u h (replied x) e w g l k q = absurd (well-not w q)
   silent-leaves u h (silent n) e w g l k q = (holds-unique u new old (rw (silence-keeps u (port_of port) s (length area) n e) at l) h, g)
@@ -97,7 +96,7 @@ pick-leaves true o p old h g = h
 pick-leaves false o p old h g = g
 
 done-leaves : (n : ℕ) (x old : List ℕ) → Leaves (done n, x) old
-done-leaves n x old m e = let z : ◌≡◌ {A = ℕ} 0 1 = cc in absurd (omega arith)
+done-leaves n x old m e = absurd (cc)
 
 written-leaves : (b : Bool) (x old : List ℕ) → Leaves (written b x old) old
 unfolding written
@@ -113,22 +112,22 @@ unfolding filled
 filled-leaves n words old = pick-leaves (ltb (length old) (length words)) (refused 300, old) (done n, words ++ drop (length words) old) old (λ m e. refl) (done-leaves _ _ old)
 
 module _ (old : List ℕ) where
-  reply-leaves : (x : Reply) → Leaves (reply_filled x old) old
-  reply-leaves (y.Accepted version x) = filled-leaves (given_kind x) (given_words version x) old
-  reply-leaves (y.Denied version status p) = filled-leaves 255 (roomless 255 version status 0 p.start p.len) old
-  reply-leaves (y.Bad f) = λ n e. refl
+  reply-leaves : (x : Result Reply Fault) → Leaves (reply_filled x old) old
+  reply-leaves (Ok (y.Accepted version x)) = filled-leaves (given_kind x) (given_words version x) old
+  reply-leaves (Ok (y.Denied version status p)) = filled-leaves 255 (roomless 255 version status 0 p.start p.len) old
+  reply-leaves (Err f) = λ n e. refl
 
-  key-leaves : (y : Key) → Leaves (key_filled y old) old
-  key-leaves (k.Value access tag next) = filled-leaves next _ old
-  key-leaves k.Bad = λ n e. refl
+  key-leaves : (y : Reading Key) → Leaves (key_filled y old) old
+  key-leaves (Ok t) = filled-leaves t.next _ old
+  key-leaves (Err f) = λ n e. refl
 
-  memory-leaves : (y : Memory) → Leaves (memory_filled y old) old
-  memory-leaves (m.Value access tag p next) = filled-leaves next _ old
-  memory-leaves (m.Bad f) = λ n e. refl
+  memory-leaves : (y : Reading Memory) → Leaves (memory_filled y old) old
+  memory-leaves (Ok t) = filled-leaves t.next _ old
+  memory-leaves (Err f) = λ n e. refl
 
-  resource-leaves : (y : ResourceRead) → Leaves (resource_filled y old) old
-  resource-leaves (e.Value x next) = filled-leaves next _ old
-  resource-leaves e.Bad = λ n q. refl
+  resource-leaves : (y : Reading Resource) → Leaves (resource_filled y old) old
+  resource-leaves (Ok t) = filled-leaves t.next _ old
+  resource-leaves (Err f) = λ n q. refl
 
   short-leaves : (s : List ℕ) (o : Outcome × List ℕ) → Leaves o old → Leaves (short s o old) old
   short-leaves s o h = pick-leaves (ltb 2048 (length s)) (refused 16, old) o old (λ n e. refl) h

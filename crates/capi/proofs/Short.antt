@@ -11,19 +11,17 @@ use Rattle.octets.specs.Frame.{Message, opening, openable, encode, writable}
 use Rattle.octets.specs.Reading.{Octets}
 use Rattle.octets.specs.declared.Form.{Form}
 use Rattle.octets.specs.declared.Port.{Port}
-use Rattle.octets.specs.declared.Written.{Written}
-use Rattle.octets.specs.declared.Written.TheVariants as w
+use Rattle.octets.specs.Area.{Written}
+use Rattle.std.specs.Prelude.{Some, None, Ok, Err}
 use Rattle.octets.proofs.Frames.{openable-is}
 use Rattle.octets.proofs.Places.{both}
 use Rattle.lists.specs.Handed.{agrees, belong, keys_of, held_of}
 use Rattle.requests.specs.Request.{Body, bulk_read, bulk_write, request_body, request, request_sent, bulk_read_sent, bulk_write_sent}
 use Rattle.answers.specs.Answer.{answer_octets}
 use Rattle.store.specs.Model.{State, Valid}
-use Rattle.responder.specs.Entry.{word_of, word_for, Responded}
+use Rattle.responder.specs.Entry.{word_of, word_for, Responded, Sent}
 use Rattle.responder.specs.Respond.{Result, silent, replied, respond}
 use Rattle.responder.specs.declared.Reply.{Reply}
-use Rattle.responder.specs.Entry.{Sent}
-use Rattle.std.specs.Prelude.{Some, None}
 use Rattle.responder.proofs.Writable.{respond-short}
 use Rattle.capi.specs.Result.{WrittenShort, SentShort}
 
@@ -38,13 +36,12 @@ message-short m h =
 -- what is told of octets that may be written or not
 written-short : (b : Bool) (m old new : List ℕ) (x : Written) → (b ≡ true → length m ≤ 2048) → Does (written b m old) x new → WrittenShort x
 unfolding written
-written-short b m old new w.Refused h d = tt
-written-short b m old new w.NoRoom h d = tt
-written-short false m old new (w.Done n) h d = let e : done n ≡ refused 16 = d.says in let z : ◌≡◌ {A = ℕ} 0 1 = cc in absurd (omega arith)
-written-short true m old new (w.Done n) h d = go (ltb (length old) (length m)) d.says
+written-short b m old new (Err e) h d = tt
+written-short false m old new (Ok n) h d = let e : done n ≡ refused 16 = d.says in absurd (cc)
+written-short true m old new (Ok n) h d = go (ltb (length old) (length m)) d.says
   where
     go : (t : Bool) → done n ≡ (cond {A = Outcome × List ℕ} t (refused 300, old) (done (length m), m ++ drop (length m) old)).0 → n ≤ 2048
-    go true e = let z : ◌≡◌ {A = ℕ} 0 1 = cc in absurd (omega arith)
+    go true e = absurd (cc)
     go false e = let z : n ≡ length m = cc in omega (arith, h refl)
 
 -- a request
@@ -54,9 +51,8 @@ request-short m old {new} {x} d = written-short (writable request_body m) (encod
 -- a request of lists that slices describe, or do not
 described-short : (b : Bool) (m : Message Body) (old new : List ℕ) (x : Written) → Does (described b (request_sent m old) old) x new → WrittenShort x
 described-short true m old new x d = request-short m old d
-described-short false m old new w.Refused d = tt
-described-short false m old new w.NoRoom d = tt
-described-short false m old new (w.Done n) d = let e : done n ≡ refused 16 = d.says in let z : ◌≡◌ {A = ℕ} 0 1 = cc in absurd (omega arith)
+described-short false m old new (Err e) d = tt
+described-short false m old new (Ok n) d = let e : done n ≡ refused 16 = d.says in absurd (cc)
 
 module _ (w : Form) (version : ℕ) (tags passwords old : List ℕ) {new : List ℕ} {x : Written} where
   pub bulk-read-short : Does (bulk_read_sent w version tags passwords old) x new → WrittenShort x
@@ -73,5 +69,5 @@ respond-sent-short u p q area r new table pool v o d = go r.sent (respond u p q 
   where
     go : (t : Sent) (x : Result) → (respond u p q (length area)).result ≡ x → word_of t ≡ word_for x → SentShort t
     go None x e k = tt
-    go (Some n) (silent m) e k = let z : ◌≡◌ {A = ℕ} 0 1 = cc in absurd (omega arith)
+    go (Some n) (silent m) e k = absurd (cc)
     go (Some n) (replied a) e k = let z : n ≡ length (answer_octets a) = cc in omega (arith, respond-short u p q (length area) a v o e)

@@ -12,11 +12,10 @@ use Rattle.octets.specs.declared.Fault.TheVariants.{Other}
 use Rattle.octets.specs.declared.Form.TheVariants as f
 use Rattle.octets.specs.declared.Port.TheVariants.{Normal, Secure}
 use Rattle.octets.specs.declared.Span.{Span}
-use Rattle.tags.specs.declared.Key.TheVariants as k
-use Rattle.tags.specs.declared.Memory.TheVariants as m
-use Rattle.resources.specs.declared.ResourceRead.TheVariants as e
 use Rattle.answers.specs.declared.Given.TheVariants as g
 use Rattle.answers.specs.declared.Reply.{Reply}
+use Rattle.octets.specs.declared.Fault.{Fault}
+use Rattle.std.specs.Prelude.{Result, Ok, Err}
 use Rattle.answers.specs.declared.Reply.TheVariants as r
 use Rattle.admission.specs.Denial.{Allowed, Denied}
 use Rattle.store.specs.Model.{first_kind}
@@ -116,7 +115,7 @@ abbrev old : List ℕ
 old = replicate 13 99
 
 -- an answer as it is read, with the twelve words that tell it
-abbrev read : Reply → Outcome × List ℕ
+abbrev read : Result Reply Fault → Outcome × List ℕ
 read x = reply_filled x old
 
 abbrev fills : List ((Outcome × List ℕ) × (Outcome × List ℕ))
@@ -127,27 +126,27 @@ fills =
     ∷ (filled 4 (1 ∷ 2 ∷ []) (8 ∷ []), (refused 300, 8 ∷ []))
     -- type, version, status, tag, first place, length or count, and what a unit can take
     ∷ (
-      read (r.Accepted 1 (g.Resources (record { largest = 11; tags = 12; octets = 13; volatile_tags = 14; volatile_octets = 15; entries = 16 }) list)),
+      read (Ok (r.Accepted 1 (g.Resources (record { largest = 11; tags = 12; octets = 13; volatile_tags = 14; volatile_octets = 15; entries = 16 }) list))),
       (done 128, 128 ∷ 1 ∷ 0 ∷ 0 ∷ 7 ∷ 2 ∷ 11 ∷ 12 ∷ 13 ∷ 14 ∷ 15 ∷ 16 ∷ 99 ∷ []),
     )
-    ∷ (read (r.Accepted 1 (g.Allocate f.Plain 5)), (done 129, 129 ∷ 1 ∷ 0 ∷ 5 ∷ 0 ∷ 0 ∷ 0 ∷ 0 ∷ 0 ∷ 0 ∷ 0 ∷ 0 ∷ 99 ∷ []))
-    ∷ (read (r.Accepted 1 (g.Free f.Password 5)), (done 194, 194 ∷ 1 ∷ 0 ∷ 5 ∷ 0 ∷ 0 ∷ 0 ∷ 0 ∷ 0 ∷ 0 ∷ 0 ∷ 0 ∷ 99 ∷ []))
-    ∷ (read (r.Accepted 1 (g.Read f.Plain 5 part)), (done 131, 131 ∷ 1 ∷ 0 ∷ 5 ∷ 7 ∷ 2 ∷ 0 ∷ 0 ∷ 0 ∷ 0 ∷ 0 ∷ 0 ∷ 99 ∷ []))
-    ∷ (read (r.Accepted 1 (g.Write f.Password 5)), (done 196, 196 ∷ 1 ∷ 0 ∷ 5 ∷ 0 ∷ 0 ∷ 0 ∷ 0 ∷ 0 ∷ 0 ∷ 0 ∷ 0 ∷ 99 ∷ []))
-    ∷ (read (r.Accepted 1 (g.BulkRead f.Plain list)), (done 133, 133 ∷ 1 ∷ 0 ∷ 0 ∷ 7 ∷ 2 ∷ 0 ∷ 0 ∷ 0 ∷ 0 ∷ 0 ∷ 0 ∷ 99 ∷ []))
-    ∷ (read (r.Accepted 1 (g.BulkWrite f.Password list)), (done 198, 198 ∷ 1 ∷ 0 ∷ 0 ∷ 7 ∷ 2 ∷ 0 ∷ 0 ∷ 0 ∷ 0 ∷ 0 ∷ 0 ∷ 99 ∷ []))
-    ∷ (read (r.Denied 1 4 part), (done 255, 255 ∷ 1 ∷ 4 ∷ 0 ∷ 7 ∷ 2 ∷ 0 ∷ 0 ∷ 0 ∷ 0 ∷ 0 ∷ 0 ∷ 99 ∷ []))
-    ∷ (read (r.Bad Other), (refused 16, old))
+    ∷ (read (Ok (r.Accepted 1 (g.Allocate f.Plain 5))), (done 129, 129 ∷ 1 ∷ 0 ∷ 5 ∷ 0 ∷ 0 ∷ 0 ∷ 0 ∷ 0 ∷ 0 ∷ 0 ∷ 0 ∷ 99 ∷ []))
+    ∷ (read (Ok (r.Accepted 1 (g.Free f.Password 5))), (done 194, 194 ∷ 1 ∷ 0 ∷ 5 ∷ 0 ∷ 0 ∷ 0 ∷ 0 ∷ 0 ∷ 0 ∷ 0 ∷ 0 ∷ 99 ∷ []))
+    ∷ (read (Ok (r.Accepted 1 (g.Read f.Plain 5 part))), (done 131, 131 ∷ 1 ∷ 0 ∷ 5 ∷ 7 ∷ 2 ∷ 0 ∷ 0 ∷ 0 ∷ 0 ∷ 0 ∷ 0 ∷ 99 ∷ []))
+    ∷ (read (Ok (r.Accepted 1 (g.Write f.Password 5))), (done 196, 196 ∷ 1 ∷ 0 ∷ 5 ∷ 0 ∷ 0 ∷ 0 ∷ 0 ∷ 0 ∷ 0 ∷ 0 ∷ 0 ∷ 99 ∷ []))
+    ∷ (read (Ok (r.Accepted 1 (g.BulkRead f.Plain list))), (done 133, 133 ∷ 1 ∷ 0 ∷ 0 ∷ 7 ∷ 2 ∷ 0 ∷ 0 ∷ 0 ∷ 0 ∷ 0 ∷ 0 ∷ 99 ∷ []))
+    ∷ (read (Ok (r.Accepted 1 (g.BulkWrite f.Password list))), (done 198, 198 ∷ 1 ∷ 0 ∷ 0 ∷ 7 ∷ 2 ∷ 0 ∷ 0 ∷ 0 ∷ 0 ∷ 0 ∷ 0 ∷ 99 ∷ []))
+    ∷ (read (Ok (r.Denied 1 4 part)), (done 255, 255 ∷ 1 ∷ 4 ∷ 0 ∷ 7 ∷ 2 ∷ 0 ∷ 0 ∷ 0 ∷ 0 ∷ 0 ∷ 0 ∷ 99 ∷ []))
+    ∷ (read (Err Other), (refused 16, old))
     -- eleven words are too few
-    ∷ (reply_filled (r.Denied 1 4 part) (replicate 11 99), (refused 300, replicate 11 99))
+    ∷ (reply_filled (Ok (r.Denied 1 4 part)) (replicate 11 99), (refused 300, replicate 11 99))
     -- an entry: its words, and the next place
-    ∷ (key_filled (k.Value Plain 5 8) (9 ∷ 9 ∷ []), (done 8, 5 ∷ 9 ∷ []))
-    ∷ (key_filled k.Bad (9 ∷ []), (refused 16, 9 ∷ []))
-    ∷ (memory_filled (m.Value Plain 5 part 8) (9 ∷ 9 ∷ 9 ∷ []), (done 8, 5 ∷ 7 ∷ 2 ∷ []))
-    ∷ (memory_filled (m.Value Plain 5 part 8) (9 ∷ 9 ∷ []), (refused 300, 9 ∷ 9 ∷ []))
-    ∷ (memory_filled (m.Bad Other) (9 ∷ []), (refused 16, 9 ∷ []))
-    ∷ (resource_filled (e.Value (record { tag = 5; mode = 6; held = 7; size = 8 }) 17) (9 ∷ 9 ∷ 9 ∷ 9 ∷ []), (done 17, 5 ∷ 6 ∷ 7 ∷ 8 ∷ []))
-    ∷ (resource_filled e.Bad (9 ∷ []), (refused 16, 9 ∷ []))
+    ∷ (key_filled (Ok (record { value = record { access = Plain; tag = 5 }; next = 8 })) (9 ∷ 9 ∷ []), (done 8, 5 ∷ 9 ∷ []))
+    ∷ (key_filled (Err Other) (9 ∷ []), (refused 16, 9 ∷ []))
+    ∷ (memory_filled (Ok (record { value = record { access = Plain; tag = 5; span = part }; next = 8 })) (9 ∷ 9 ∷ 9 ∷ []), (done 8, 5 ∷ 7 ∷ 2 ∷ []))
+    ∷ (memory_filled (Ok (record { value = record { access = Plain; tag = 5; span = part }; next = 8 })) (9 ∷ 9 ∷ []), (refused 300, 9 ∷ 9 ∷ []))
+    ∷ (memory_filled (Err Other) (9 ∷ []), (refused 16, 9 ∷ []))
+    ∷ (resource_filled (Ok (record { value = record { tag = 5; mode = 6; held = 7; size = 8 }; next = 17 })) (9 ∷ 9 ∷ 9 ∷ 9 ∷ []), (done 17, 5 ∷ 6 ∷ 7 ∷ 8 ∷ []))
+    ∷ (resource_filled (Err Other) (9 ∷ []), (refused 16, 9 ∷ []))
     -- "if the octets are over 2,048", 16 before 300
     ∷ (short (replicate 2048 0) (done 8, 5 ∷ []) (9 ∷ []), (done 8, 5 ∷ []))
     ∷ (short (replicate 2049 0) (done 8, 5 ∷ []) (9 ∷ []), (refused 16, 9 ∷ []))

@@ -8,13 +8,17 @@ use lib.IntN.{ℤ}
 use lib.Dec.{ltb}
 use Rattle.octets.specs.Area.{Outcome}
 use Rattle.octets.specs.Reading.{Octets}
+use Rattle.octets.specs.View.{Reading}
+use Rattle.octets.specs.declared.Fault.{Fault}
 use Rattle.tags.specs.declared.Key.{Key}
 use Rattle.tags.specs.declared.Memory.{Memory}
 use Rattle.tags.proofs.Unique.{key-unique, memory-unique}
-use Rattle.resources.specs.declared.ResourceRead.{ResourceRead}
+use Rattle.resources.specs.declared.Resource.{Resource}
 use Rattle.resources.proofs.Unique.{resource-unique}
 use Rattle.answers.specs.declared.Reply.{Reply}
 use Rattle.answers.proofs.Unique.{answer-unique}
+use Rattle.octets.specs.declared.Form.TheVariants.{Plain}
+use Rattle.std.specs.Prelude.{Result}
 use Rattle.store.specs.Model.{State, new_unit, first_kind}
 use Rattle.store.specs.Steps.{Step}
 use Rattle.store.proofs.Unique.{shows-unique}
@@ -122,17 +126,17 @@ same_gives f e a b = (a.says ∙ ap (λ z. number_of (f z).0) e ∙ sym b.says, 
 module _ (s old : List ℕ) {r r' : ℤ} {new new' : List ℕ} where
   -- taxeedhuul_read_answer
   pub answer-read-unique : Octets s → ReadsAnswer s old r new → ReadsAnswer s old r' new' → (r ≡ r') × (new ≡ new')
-  answer-read-unique o a b = same_gives (λ (y : Reply). reply_filled y old) (answer-unique o a.understood b.understood) a.gives b.gives
+  answer-read-unique o a b = same_gives (λ (y : Result Reply Fault). reply_filled y old) (answer-unique o a.understood b.understood) a.gives b.gives
 
   -- taxeedhuul_read_tag
   pub tag-read-unique : (at : ℕ) → ReadsTag s at old r new → ReadsTag s at old r' new' → (r ≡ r') × (new ≡ new')
-  tag-read-unique at a b = same_gives (λ (y : Key). short s (key_filled y old) old) (key-unique a.stands b.stands) a.gives b.gives
+  tag-read-unique at a b = same_gives (λ (y : Reading Key). short s (key_filled y old) old) (key-unique at Plain a.stands b.stands) a.gives b.gives
 
   -- taxeedhuul_read_memory_data
   pub memory-read-unique : (at : ℕ) → ReadsMemory s at old r new → ReadsMemory s at old r' new' → (r ≡ r') × (new ≡ new')
-  memory-read-unique at a b = same_gives (λ (y : Memory). short s (memory_filled y old) old) (memory-unique a.stands b.stands) a.gives b.gives
+  memory-read-unique at a b = same_gives (λ (y : Reading Memory). short s (memory_filled y old) old) (memory-unique at Plain a.stands b.stands) a.gives b.gives
 
   -- taxeedhuul_read_resource
   pub resource-read-unique : (at : ℕ) → ReadsResource s at old r new → ReadsResource s at old r' new' → (r ≡ r') × (new ≡ new')
   resource-read-unique at a b =
-      same_gives (λ (y : ResourceRead). short s (resource_filled y old) old) (resource-unique s at a.entry b.entry a.stands b.stands) a.gives b.gives
+      same_gives (λ (y : Reading Resource). short s (resource_filled y old) old) (resource-unique s at a.entry b.entry a.stands b.stands) a.gives b.gives

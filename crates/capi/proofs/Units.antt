@@ -1,13 +1,12 @@
 -- Slices and the unit that they stand for: the lines that look at no unit, a start, and what respond and fit leave.
-use Prim.Native.Nat.{ℕ, ◌<◌}
+use Prim.Native.Nat.{ℕ}
 use mathlib.Core.Path.{◌≡◌, refl, sym, ap, ◌∙◌}
-use mathlib.Core.Bool.{Bool, true, false, not, ◌&&◌, cond}
+use mathlib.Core.Bool.{Bool, true, false, ◌&&◌, cond}
 use mathlib.Core.List.{List, []}
-use native.Mathlib.Omega.{arith}
 use lib.IntN.{ℤ}
 use lib.Dec.{ltb, eqb}
-use lib.ListN.{length, get_or, replicate}
-use borrow.Author.Tests.{eqb-true, ltb-false, not-true, not-false}
+use lib.ListN.{length, replicate}
+use borrow.Author.Tests.{eqb-true, ltb-false}
 use Rattle.octets.specs.Area.{done, refused}
 use Rattle.octets.specs.Number.{bare}
 use Rattle.octets.specs.declared.Access.{Access}
@@ -22,14 +21,18 @@ use Rattle.rows.specs.Keyed.{change, without}
 use Rattle.store.specs.Answers.{begun, started, made, refused as unmade, Did}
 use Rattle.store.specs.Model.{State, Tag, tag_id, new_unit, first_kind, head_of, Shows, Sound}
 use Rattle.store.specs.Steps.{Step, verdict, acted, written, asked, more, write_step, free_step, allocate_step, fit_step}
-use Rattle.store.specs.declared.Start.{Start}
-use Rattle.store.specs.declared.Start.TheVariants as s
+use Rattle.std.specs.Option.{ok_or}
+use Rattle.std.specs.Prelude.{Option, Some, None, Result, Ok, Err}
+use Rattle.std.specs.Result.{IsErr, IsErrAnd}
+use Rattle.std.proofs.lemmas.Result.{err_from_is_err_and}
+use Rattle.capi.specs.declared.Refusal.{Refusal}
+use Rattle.capi.specs.declared.Refusal.TheVariants as r
 use Rattle.store.proofs.Sound.{start-sound}
 use Rattle.responder.specs.Entry.{word_of, Responded}
 use Rattle.responder.specs.Respond.{number, none, respond}
 use Rattle.responder.specs.declared.Reply.{Reply}
 use Rattle.responder.proofs.Kept.{respond-keeps}
-use Rattle.capi.specs.Result.{number_of, judged, worded}
+use Rattle.capi.specs.Result.{number as refusal_number, outcome_of, number_of, judged, worded}
 use Rattle.capi.specs.Slices.{Slices, lent, head_words, Holds}
 use Rattle.capi.specs.Calls.{port_of, barred_by, start_line, port_line, mode_line, Starts, Answers, Responds, Does, Fits}
 
@@ -49,14 +52,31 @@ pub same_number : {n m : ℕ} → number n ≡ number m → n ≡ m
 same_number e = cc
 
 pub not_none : {n : ℕ} → number n ≡ none → ⊥
-not_none e = let z : ◌≡◌ {A = ℕ} 0 1 = cc in omega arith
+not_none e = cc
+
+-- what `?` hands on is the refusal that it met
+pub handed : (z : Result ℕ Refusal) (x y : Refusal) → IsErr z × IsErrAnd z (λ e. e ≡ x) → x ≡ y → number_of (outcome_of z) ≡ number_of (refused (refusal_number y))
+handed z x y h e =
+    let p = err_from_is_err_and z h.1 in
+    rw (p.1, p.2, e)
 
 -- what are_lent tells
-pub is-lent : (x : Slices) {b : Bool} → b ≡ lent x → not b ≡ false → lent x ≡ true
-is-lent x {b} e f = sym e ∙ not-false b f
+pub is-lent : (b : Bool) (u : Unit {0}) → ◌≡◌ {A = Result (Unit {0}) Refusal} (Ok u) (cond b (Ok tt) (Err r.Room)) → b ≡ true
+is-lent true u e = refl
+is-lent false u e = absurd (cc)
 
-pub is-unlent : (x : Slices) {b : Bool} → b ≡ lent x → not b ≡ true → lent x ≡ false
-is-unlent x {b} e f = sym e ∙ not-true b f
+pub is-unlent : (b : Bool) (x : Refusal) → ◌≡◌ {A = Result (Unit {0}) Refusal} (Err x) (cond b (Ok tt) (Err r.Room)) → (b ≡ false) × (x ≡ r.Room)
+is-unlent true x e = absurd (cc)
+is-unlent false x e = (refl, cc)
+
+-- what is told of a number that may be too great
+pub is-high : {A : Type 0} (b : Bool) (x : Refusal) (a : A) → ◌≡◌ {A = Result A Refusal} (Err x) (cond b (Err r.Value) (Ok a)) → (b ≡ true) × (x ≡ r.Value)
+is-high true x a e = (refl, cc)
+is-high false x a e = absurd (cc)
+
+pub is-low : {A : Type 0} (b : Bool) (y a : A) → ◌≡◌ {A = Result A Refusal} (Ok y) (cond b (Err r.Value) (Ok a)) → (b ≡ false) × (y ≡ a)
+is-low true y a e = absurd (cc)
+is-low false y a e = (refl, cc)
 
 pub lengths : (x : Slices) → lent x ≡ true → (length x.head ≡ 5) × (length x.table ≡ 256) × (length x.memory ≡ 8192)
 lengths x h =
@@ -66,60 +86,52 @@ lengths x h =
 
 -- ---- start
 
-begun-refused : (v : ℕ) (a p : Bool) → begun s.Refused ≡ started first_kind v a p → ltb 15 v ≡ true
+pub start-none : (o : Option Head) (x : Refusal) (v : ℕ) (a p : Bool) → begun o ≡ started first_kind v a p → Err x ≡ ok_or o r.Version → (ltb 15 v ≡ true) × (x ≡ r.Version)
 unfolding started
-begun-refused v a p e = go (ltb 15 v) e
+start-none (Some h) x v a p e q = absurd (cc)
+start-none None x v a p e q = (go (ltb 15 v) e, cc)
   where
     go : (t : Bool) → unmade 301 ≡ cond t (unmade 301) (made (head_of (new_unit first_kind v a p))) → t ≡ true
     go true q = refl
-    go false q = let z : ◌≡◌ {A = ℕ} 0 1 = cc in absurd (omega arith)
+    go false q = absurd (cc)
 
-begun-made : (h : Head) (v : ℕ) (a p : Bool) → begun (s.Made h) ≡ started first_kind v a p → (ltb 15 v ≡ false) × (h ≡ head_of (new_unit first_kind v a p))
+pub start-some : (o : Option Head) (h : Head) (v : ℕ) (a p : Bool) → begun o ≡ started first_kind v a p → Ok h ≡ ok_or o r.Version
+    → (ltb 15 v ≡ false) × (h ≡ head_of (new_unit first_kind v a p))
 unfolding started
-begun-made h v a p e = go (ltb 15 v) e
+start-some None h v a p e q = absurd (cc)
+start-some (Some x) h v a p e q = go (ltb 15 v) e
   where
-    go : (t : Bool) → made h ≡ cond t (unmade 301) (made (head_of (new_unit first_kind v a p))) → (t ≡ false) × (h ≡ head_of (new_unit first_kind v a p))
-    go true q = let z : ◌≡◌ {A = ℕ} 0 1 = cc in absurd (omega arith)
-    go false q = (refl, cc)
+    is : h ≡ x
+    is = cc
 
-module _ (v : ℕ) (a p : Bool) (old : Slices) (r : ℤ) where
-  starts-barred : (n : ℕ) → start_line v old ≡ number n → r ≡ number_of (refused n) → Starts v a p old r old
+    go : (t : Bool) → made x ≡ cond t (unmade 301) (made (head_of (new_unit first_kind v a p))) → (t ≡ false) × (h ≡ head_of (new_unit first_kind v a p))
+    go true w = absurd (cc)
+    go false w = let m : x ≡ head_of (new_unit first_kind v a p) = cc in (refl, is ∙ m)
+
+module _ (v : ℕ) (a p : Bool) (old : Slices) (z : ℤ) where
+  pub starts-barred : (n : ℕ) → start_line v old ≡ number n → z ≡ number_of (refused n) → Starts v a p old z old
   starts-barred n l e = record {
     barred = λ m q. (e ∙ ap (λ (k : ℕ). number_of (refused k)) (same_number (sym l ∙ q)), refl);
     made = λ q. absurd (not_none (sym l ∙ q));
   }
 
-  -- a version above 15
-  pub starts-high : (t : Start) → begun t ≡ started first_kind v a p → t ≡ s.Refused → r ≡ number_of (refused 301) → Starts v a p old r old
-  starts-high t b e q = starts-barred 301 (high-line 301 old (ltb 15 v) (begun-refused v a p (sym (ap begun e) ∙ b))) q
-
-  -- slices of other lengths
-  pub starts-unlent : (t : Start) (h : Head) → begun t ≡ started first_kind v a p → t ≡ s.Made h → lent old ≡ false → r ≡ number_of (refused 300) → Starts v a p old r old
-  starts-unlent t h b e l q = starts-barred 300 (unlent-line 301 old (ltb 15 v) (begun-made h v a p (sym (ap begun e) ∙ b)).0 l) q
-
   -- a new unit
-  pub starts-made : (t : Start) (h : Head) (new : Slices) → begun t ≡ started first_kind v a p → t ≡ s.Made h → lent old ≡ true → r ≡ number_of (done 0)
-      → new.head ≡ head_words h → new.table ≡ replicate (length old.table) 0 → new.memory ≡ replicate (length old.memory) 0 → Starts v a p old r new
-  starts-made t h new b e l q w i o =
-      let f = sym (ap begun e) ∙ b in
-      let m = begun-made h v a p f in
+  pub starts-made : (new : Slices) → ltb 15 v ≡ false → lent old ≡ true → z ≡ number_of (done 0)
+      → new.head ≡ head_words (head_of (new_unit first_kind v a p)) → new.table ≡ replicate (length old.table) 0 → new.memory ≡ replicate (length old.memory) 0 → Starts v a p old z new
+  unfolding started
+  starts-made new f l q w i o =
       let n = lengths old l in
-      let d : Shows (new_unit first_kind v a p) h new.table new.memory =
-      start-sound h v a p new.table new.memory f (ltb-false 15 v m.0) (i ∙ ap (λ (k : ℕ). replicate k 0) n.1, o ∙ ap (λ (k : ℕ). replicate k 0) n.2) in
+      let b : made (head_of (new_unit first_kind v a p)) ≡ started first_kind v a p = rw f in
+      let d : Shows (new_unit first_kind v a p) (head_of (new_unit first_kind v a p)) new.table new.memory =
+      start-sound _ v a p new.table new.memory b (ltb-false 15 v f) (i ∙ ap (λ (k : ℕ). replicate k 0) n.1, o ∙ ap (λ (k : ℕ). replicate k 0) n.2) in
       record {
-        barred = λ k g. absurd (not_none (sym g ∙ no_line 301 old (ltb 15 v) m.0 l));
-        made = λ g. (q, record { kind = refl; words = w ∙ ap head_words m.1; shown = rw m.1 at d });
+        barred = λ k g. absurd (not_none (sym g ∙ no_line 301 old (ltb 15 v) f l));
+        made = λ g. (q, record { kind = refl; words = w; shown = d });
       }
 
 -- ---- a unit that is kept
 
 module _ (u : State) (x : Slices) (k : Holds u x) where
-  pub head-five : length x.head ≡ 5
-  head-five = ap length k.words
-
-  pub head-low : get_or x.head 0 0 < 256
-  head-low = let e : get_or x.head 0 0 ≡ u.version = ap (λ (l : List ℕ). get_or l 0 0) k.words in omega (arith, k.shown.valid.low)
-
   pub held-sound : (h : Head) → h ≡ head_of u → Sound h x.table x.memory
   held-sound h e = record { unit = u; shown = rw e k.shown }
 
@@ -185,6 +197,7 @@ module _ (mode : ℕ) (step : State → Step) (old : Slices) (r : ℤ) where
   pub fits : (new : Slices) → mode_line mode old ≡ none → ((u : State) → Holds u old → Does (step u) r new) → Fits mode step old r new
   fits new l f = record { barred = λ n q. absurd (not_none (sym q ∙ l)); fitted = λ q. f }
 
+-- a fitting that is denied leaves the head's words; one that is done puts the new ones
 pub does-fit : (u : State) (x size : ℕ) (mode : Mode) (spf : Bool) (lock : Access) (xs : List ℕ) (old new : Slices) (h : Head) (v : Verdict) (r : ℤ) → Holds u old
     → Did (fit_step u x size mode spf lock xs) v h new.table new.memory → new.head ≡ head_words h → r ≡ number_of (judged v) → Does (fit_step u x size mode spf lock xs) r new
 does-fit u x size mode spf lock xs old new h v r k d w e = record {

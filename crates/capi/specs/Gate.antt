@@ -1,18 +1,17 @@
 -- What the gate's writers and readers give and do, by the definitions of the message layer. A reader's words go into a lent slice of words: as many as it has to tell,
 -- and those behind them stay.
-use Rattle.std.specs.Prelude.{cond, ℕ, ◌≡◌, List, [], ◌∷◌, ◌++◌, ℤ, length, drop, ltb}
+use Rattle.std.specs.Prelude.{Result, Ok, Err, cond, ℕ, ◌≡◌, List, [], ◌∷◌, ◌++◌, ℤ, length, drop, ltb}
 use Rattle.octets.specs.Area.{Outcome, done, refused}
 use Rattle.octets.specs.Reading.{fault_number}
+use Rattle.octets.specs.View.{Reading}
+use Rattle.octets.specs.declared.Fault.{Fault}
 use Rattle.octets.specs.declared.Form.TheVariants.{Plain}
 use Rattle.tags.specs.View.{KeyAt, MemoryAt}
 use Rattle.tags.specs.declared.Key.{Key}
-use Rattle.tags.specs.declared.Key.TheVariants as k
 use Rattle.tags.specs.declared.Memory.{Memory}
-use Rattle.tags.specs.declared.Memory.TheVariants as m
 use Rattle.resources.specs.View.{ResourceAt}
+use Rattle.resources.specs.declared.Resource.{Resource}
 use Rattle.resources.specs.declared.Room.{Room}
-use Rattle.resources.specs.declared.ResourceRead.{ResourceRead}
-use Rattle.resources.specs.declared.ResourceRead.TheVariants as e
 use Rattle.answers.specs.View.{given_kind, Understood}
 use Rattle.answers.specs.declared.Given.{Given}
 use Rattle.answers.specs.declared.Given.TheVariants as g
@@ -53,14 +52,14 @@ given_words version (g.BulkRead w list) = roomless (given_kind (g.BulkRead w lis
 given_words version (g.BulkWrite w list) = roomless (given_kind (g.BulkWrite w list)) version 0 0 list.start list.count
 
 -- the answer's type is told, and 255 for a denial
-abbrev pub reply_filled : Reply → List ℕ → Outcome × List ℕ
-reply_filled (r.Accepted version x) old = filled (given_kind x) (given_words version x) old
-reply_filled (r.Denied version status p) old = filled 255 (roomless 255 version status 0 p.start p.len) old
-reply_filled (r.Bad f) old = (refused (fault_number f), old)
+abbrev pub reply_filled : Result Reply Fault → List ℕ → Outcome × List ℕ
+reply_filled (Ok (r.Accepted version x)) old = filled (given_kind x) (given_words version x) old
+reply_filled (Ok (r.Denied version status p)) old = filled 255 (roomless 255 version status 0 p.start p.len) old
+reply_filled (Err f) old = (refused (fault_number f), old)
 
 -- the one reply that the octets are
 pub record ReadsAnswer (s old : List ℕ) (r : ℤ) (new : List ℕ) : Type 0 where
-  pub reply : Reply
+  pub reply : Result Reply Fault
   pub understood : Understood s reply
   pub gives : Gives (reply_filled reply old) r new
 
@@ -71,34 +70,34 @@ abbrev pub short : List ℕ → Outcome × List ℕ → List ℕ → Outcome × 
 short s o old = cond (ltb 2048 (length s)) (refused 16, old) o
 
 -- the tag; the next place is told
-abbrev pub key_filled : Key → List ℕ → Outcome × List ℕ
-key_filled (k.Value access tag next) old = filled next (tag ∷ []) old
-key_filled k.Bad old = (refused 16, old)
+abbrev pub key_filled : Reading Key → List ℕ → Outcome × List ℕ
+key_filled (Ok t) old = filled t.next (t.value.tag ∷ []) old
+key_filled (Err f) old = (refused (fault_number f), old)
 
 -- the one tag that stands at a place
 pub record ReadsTag (s : List ℕ) (at : ℕ) (old : List ℕ) (r : ℤ) (new : List ℕ) : Type 0 where
-  pub entry : Key
+  pub entry : Reading Key
   pub stands : KeyAt s at Plain entry
   pub gives : Gives (short s (key_filled entry old) old) r new
 
 -- the tag, and its data's first place and length
-abbrev pub memory_filled : Memory → List ℕ → Outcome × List ℕ
-memory_filled (m.Value access tag p next) old = filled next (tag ∷ p.start ∷ p.len ∷ []) old
-memory_filled (m.Bad f) old = (refused (fault_number f), old)
+abbrev pub memory_filled : Reading Memory → List ℕ → Outcome × List ℕ
+memory_filled (Ok t) old = filled t.next (t.value.tag ∷ t.value.span.start ∷ t.value.span.len ∷ []) old
+memory_filled (Err f) old = (refused (fault_number f), old)
 
 -- the one memory data that stands at a place
 pub record ReadsMemory (s : List ℕ) (at : ℕ) (old : List ℕ) (r : ℤ) (new : List ℕ) : Type 0 where
-  pub entry : Memory
+  pub entry : Reading Memory
   pub stands : MemoryAt s at Plain entry
   pub gives : Gives (short s (memory_filled entry old) old) r new
 
 -- the tag, its mode code, its data size and its area size
-abbrev pub resource_filled : ResourceRead → List ℕ → Outcome × List ℕ
-resource_filled (e.Value x next) old = filled next (x.tag ∷ x.mode ∷ x.held ∷ x.size ∷ []) old
-resource_filled e.Bad old = (refused 16, old)
+abbrev pub resource_filled : Reading Resource → List ℕ → Outcome × List ℕ
+resource_filled (Ok t) old = filled t.next (t.value.tag ∷ t.value.mode ∷ t.value.held ∷ t.value.size ∷ []) old
+resource_filled (Err f) old = (refused (fault_number f), old)
 
 -- what is told of the one tag at a place
 pub record ReadsResource (s : List ℕ) (at : ℕ) (old : List ℕ) (r : ℤ) (new : List ℕ) : Type 0 where
-  pub entry : ResourceRead
+  pub entry : Reading Resource
   pub stands : ResourceAt s at entry
   pub gives : Gives (short s (resource_filled entry old) old) r new

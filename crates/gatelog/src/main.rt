@@ -3,24 +3,24 @@
 // calls may be made piece by piece, as here, is the theorem `pieces` (records/proofs/Theorems). No contract can speak of what is read and written.
 #![tactic(auto)]
 
-ghost use Rattle.std.specs.Prelude.{◌≡◌, ◌-◌, ◌≤◌, ◌<◌, length, take, drop};
-ghost use Rattle.std.proofs.lemmas.List.Edits.{sets};
+ghost use Rattle.std.specs.Prelude.{◌≡◌, ◌-◌, ◌≤◌, ◌<◌, length};
 ghost use Rattle.store.specs.Model.{State, Shows, Sound};
 ghost use Rattle.records.specs.Output.{first_unit};
 ghost use Rattle.records.specs.Entry.{step_out};
 ghost use Rattle.gatelog.specs.Place.{first_place, Within, Roomy, enough_turns, at_hand, Emptied, Tried, Refilled, TurnTaken};
 
 use admission::Head;
-use records::Turn;
+use records::{Outcome, Turn};
 use std::io;
 use std::io::Read;
-use store::{Start, Unit};
+use store::Unit;
 
 // What the input buffer holds, and the output buffer.
 const BUFFER: usize = 65536;
 
 // Where the program stands: the unit's head, how many records are answered, the octets at hand (from `start` to `end` of the input buffer), how many characters are not
 // yet written, how many were handed over to be written last, whether the input is at its end, and whether to go on.
+// `last` and `going` are fields, and no Option of a place: `TurnTaken` says also of a place that stops what was handed over.
 #[derive(Clone, Copy)]
 struct Place {
     head: Head,
@@ -77,19 +77,6 @@ fn write_out(rt: &(impl Print + Eprint + AllocGlobal), mut place: Place, out: &[
     place
 }
 
-// The octets at hand go to the front of the input buffer.
-fn move_down(input: &mut [u8], start: usize, end: usize)
-    requires { (start ≤ end) × (end ≤ length input.old) }
-    ensures { input.new ≡ sets input.old 0 (take (end - start) (drop start input.old)) }
-{
-    let n = end - start;
-    let mut i = 0;
-    while i < n {
-        input[i] = input[start + i];
-        i += 1;
-    }
-}
-
 // Reads behind the octets at hand, of which there are fewer than the buffer holds. A read that fails says so, and is the end of the input.
 fn read_more(
     rt: &(impl Eprint + AllocGlobal),
@@ -101,7 +88,7 @@ fn read_more(
     ensures { (result.head ≡ place.head) × Refilled place result input.old input.new }
 {
     let n = place.end - place.start;
-    move_down(input, place.start, place.end);
+    input.copy_within(place.start..place.end, 0);
     let more = match stdin.read(&mut input[n..]) {
         Ok(more) => more,
         Err(error) => {
@@ -133,10 +120,8 @@ fn go_on(
         → TurnTaken (step_out u place.answered place.last (at_hand place input.old) out.old place.filled) place result
         input.old input.new out.new table.new pool.new }
 {
-    let start = place.start;
-    let filled = place.filled;
-    let octets = octets::part(input, start, place.end - start);
-    let step = records::step(
+    let octets = &input[place.start..place.end];
+    let Some(Outcome { head, turn }) = records::step(
         place.head,
         table,
         pool,
@@ -144,16 +129,16 @@ fn go_on(
         octets,
         place.last,
         out,
-        filled,
-    );
-    let head = step.head;
-    let turn = step.turn;
+        place.filled,
+    ) else {
+        return write_out(rt, place, out);
+    };
     place.head = head;
     match turn {
         Turn::Answered { used, written } => {
             place.answered += 1;
-            place.start = start + used;
-            place.filled = filled + written;
+            place.start += used;
+            place.filled += written;
             place
         }
         Turn::More => {
@@ -164,9 +149,8 @@ fn go_on(
                 place
             }
         }
-        Turn::NoRoom => write_out(rt, place, out),
         Turn::Ended { written } => {
-            place.filled = filled + written;
+            place.filled += written;
             place.going = false;
             write_out(rt, place, out)
         }
@@ -182,24 +166,27 @@ fn run(
     pool: &mut [u8],
     input: &mut [u8],
     out: &mut [u8],
-    mut turns: u64,
+    turns: u64,
 )
     requires shows { Shows first_unit head table.old pool.old }
     requires roomy { Roomy input.old out.old }
     requires turns_enough { enough_turns ≤ turns }
 {
     let mut place = first_place(head);
-    while turns > 0 && place.going {
+    for _ in 0..turns {
+        if !place.going {
+            break;
+        }
         place = go_on(rt, stdin, place, table, pool, input, out);
-        turns -= 1;
     }
 }
 
 fn main(rt: HostRuntime) {
-    let unit = Unit::new();
-    let mut table = unit.table;
-    let mut pool = unit.pool;
-    let Start::Made(head) = Unit::start(1, true, true) else {
+    let Unit {
+        mut table,
+        mut pool,
+    } = Unit::new();
+    let Some(head) = Unit::start(1, true, true) else {
         return;
     };
     let mut stdin = rt.stdin();

@@ -15,4 +15,5 @@ memories_in m = held_of m.keys.form m.keys.tags.now m.keys.passwords.now m.start
 
 -- what a list of it will take
 abbrev pub MeasuredIn : Memories → Option ℕ → Type 0
-MeasuredIn m = Measured m.keys.form m.keys.tags.now m.keys.passwords.now m.starts.now m.lengths.now m.src.now (length m.keys.tags.now)
+MeasuredIn m =
+    Measured m.keys.form m.keys.tags.now m.keys.passwords.now m.starts.now m.lengths.now m.src.now (length m.keys.tags.now)

@@ -5,15 +5,17 @@
 ghost use Rattle.std.specs.Prelude.{◌≡◌, true, ◌+◌, ◌≤◌, length};
 ghost use Rattle.octets.specs.Layout.{put_all, fit_all};
 ghost use Rattle.octets.specs.Area.{Does, Wrote};
-ghost use Rattle.tags.specs.Entry.{key, memory};
-ghost use Rattle.octets.specs.View.{ListAt, Walked};
+ghost use Rattle.tags.specs.Entry.{Held, key, memory};
+ghost use Rattle.octets.specs.View.{ListAt};
+ghost use Rattle.tags.specs.View.{held};
 ghost use Rattle.lists.specs.Handed.{keys_sent, memories_sent};
 ghost use Rattle.lists.specs.View.{keys_in, memories_in, MeasuredIn};
 
 mod slices;
 
-use octets::{Access, Entries, Fault, Form, Reading, Taken, Unwritten, Written};
+use octets::{Entries, Entry, Fault, Form, Reading, Taken, Unwritten, Written};
 use slices::{Keys, Memories};
+use tags::Memory;
 
 // A list of tags: every entry is of the same length, so the list is read without going over it.
 pub fn read_keys(s: &[u8], at: usize, form: Form) -> Reading<Entries>
@@ -33,29 +35,31 @@ pub fn read_keys(s: &[u8], at: usize, form: Form) -> Reading<Entries>
     })
 }
 
+// An entry of a list of memory data.
+#[derive(Clone, Copy)]
+struct MemoryEntry {
+    form: Form,
+}
+
+impl Entry for MemoryEntry {
+    type Value = Memory;
+
+    ghost Shown = { Held };
+
+    ghost layout = { λ e. memory e.form };
+
+    ghost shown = { λ _. held };
+
+    fn read(self, s: &[u8], at: usize) -> Reading<Memory> {
+        tags::read_memory(s, at, self.form)
+    }
+}
+
 // A list of memory data, gone over entry by entry.
 pub fn read_memories(s: &[u8], at: usize, form: Form) -> Reading<Entries>
     ensures { ListAt (memory form) s.now at result }
 {
-    let Taken {
-        value: count,
-        next: start,
-    } = octets::read_length(s, at)?;
-    walk_memories(s, start, count, form)
-}
-
-fn walk_memories(s: &[u8], start: usize, count: usize, form: Form) -> Reading<Entries>
-    requires { start ≤ length s.now }
-    ensures { Walked (memory form) s.now start count result }
-{
-    let mut at = start;
-    for _ in 0..count {
-        at = tags::read_memory(s, at, form)?.next;
-    }
-    Ok(Taken {
-        value: Entries { start, count },
-        next: at,
-    })
+    octets::read_list(s, at, MemoryEntry { form })
 }
 
 fn put_keys(out: &mut [u8], at: usize, keys: Keys) -> usize
@@ -112,7 +116,8 @@ fn sum_memories(memories: Memories) -> Option<usize>
 }
 
 fn put_memories(out: &mut [u8], at: usize, memories: Memories) -> usize
-    requires { (fit_all (memory memories.keys.form) (memories_in memories) ≡ true) × (at + length (put_all (memory memories.keys.form) (memories_in memories)) ≤ length out.old) }
+    requires { (fit_all (memory memories.keys.form) (memories_in memories) ≡ true)
+        × (at + length (put_all (memory memories.keys.form) (memories_in memories)) ≤ length out.old) }
     ensures { Wrote out.old at (put_all (memory memories.entry.keys.form) (memories_in memories.entry)) out.new result }
 {
     let keys = memories.keys;

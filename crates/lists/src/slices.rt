@@ -1,4 +1,5 @@
 // Lists as a caller hands them over: slices side by side, found to belong together.
+// They are no slices of structs: the C interface hands each over as an array of its own.
 
 ghost use Rattle.std.specs.Prelude.{◌≡◌, true, false, ◌<◌, length, MatchResult};
 ghost use Rattle.lists.specs.Handed.{agrees, access_at, belong};
@@ -21,7 +22,10 @@ impl<'a> Keys<'a> {
         tags: &'a [u64],
         passwords: &'a [u64],
     ) -> Result<Keys<'a>, Unwritten>
-        ensures { MatchResult result (λ k. (k.form ≡ form) × (k.tags ≡ tags.entry) × (k.passwords ≡ passwords.entry)) (λ e. (e ≡ Unwritten.Refused) × (agrees form (length tags.now) (length passwords.now) ≡ false)) }
+        ensures { MatchResult
+            result
+            (λ k. (k.form ≡ form) × (k.tags ≡ tags.entry) × (k.passwords ≡ passwords.entry))
+            (λ e. (e ≡ Unwritten.Refused) × (agrees form (length tags.now) (length passwords.now) ≡ false)) }
     {
         let wanted = match form {
             Form::Plain => 0,
@@ -68,7 +72,11 @@ impl<'a> Memories<'a> {
         lengths: &'a [usize],
         src: &'a [u8],
     ) -> Result<Memories<'a>, Unwritten>
-        ensures { MatchResult result (λ m. (m.keys ≡ keys.entry) × (m.starts ≡ starts.entry) × (m.lengths ≡ lengths.entry) × (m.src ≡ src.entry)) (λ e. (e ≡ Unwritten.Refused) × (belong keys.entry.form keys.entry.tags.now keys.entry.passwords.now starts.now lengths.now src.now ≡ false)) }
+        ensures { MatchResult
+            result
+            (λ m. (m.keys ≡ keys.entry) × (m.starts ≡ starts.entry) × (m.lengths ≡ lengths.entry) × (m.src ≡ src.entry))
+            (λ e. (e ≡ Unwritten.Refused)
+            × (belong keys.entry.form keys.entry.tags.now keys.entry.passwords.now starts.now lengths.now src.now ≡ false)) }
     {
         let n = keys.tags.len();
         if starts.len() != n {

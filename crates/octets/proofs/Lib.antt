@@ -4,6 +4,7 @@ pub mod Numbers
 pub mod Lawful
 pub mod Areas
 pub mod Lists
+pub mod Walks
 pub mod Sends
 pub mod Frames
 pub mod Spans

@@ -2,14 +2,14 @@
 use Prim.Native.Nat.{ℕ, zero, suc, ◌+◌, ◌-◌, ◌*◌, ◌/◌, ◌%◌, ◌^◌, ◌<◌, ◌≤◌}
 use mathlib.Core.Path.{◌≡◌, refl, sym, ap, ◌∙◌}
 use mathlib.Core.Bool.{Bool, true, false, cond}
-use mathlib.Core.List.{List, [], ◌∷◌, ◌++◌, append_assoc, append-nil}
+use mathlib.Core.List.{List, [], ◌∷◌, ◌++◌, append_assoc, append-nil, reverse, reverse-cons, reverse-reverse}
 use native.Mathlib.Omega.{arith}
 use native.Mathlib.Nat.{not-suc-le-zero, le_of_suc-le-suc, pow-suc, mul_assoc, mul_comm, add-zero, mul-add-div_right, lt_of_lt_of_le, mod-eq_of_lt}
 use native.Mathlib.Numerals.{add-one}
-use lib.ListN.{replicate, length, get_or, set, take, drop, length-append, length-take, length-drop, take-append-drop, drop_of_length-le}
+use lib.ListN.{replicate, length, get_or, set, take, drop, length-reverse, length-append, length-take, length-drop, take-append-drop, drop_of_length-le}
 use Rattle.std.proofs.lemmas.List.{take-replicate}
 use borrow.Rule.Slice.PartMut.{put_mid}
-use lib.Seq.{sets-eq, take-suc, sets, length-take-le, take_all, get_or-drop, drop-drop, take_at, drop_at}
+use lib.Seq.{sets-eq, take-suc, drop-cons, sets, length-take-le, take_all, get_or-drop, drop-drop, take_at, drop_at}
 use lib.Arith.{digits_lt, digits_div, mod-mul}
 use lib.Dec.{lit<, leb}
 use borrow.Author.Tests.{le-leb, lt-leb, leb-true}
@@ -121,10 +121,10 @@ unfolding octets
 octets-eight x = let e : x / 1 ≡ x = omega arith in rw e
 
 -- eight octets, each by its worth
-pub number-eight : (s : List ℕ) → length s ≡ 8
+pub number-worth : (s : List ℕ) → length s ≡ 8
     → number s ≡ get_or s 0 0 * 0x100_0000_0000_0000 + get_or s 1 0 * 0x1_0000_0000_0000 + get_or s 2 0 * 0x100_0000_0000 + get_or s 3 0 * 0x1_0000_0000 + get_or s 4 0 * 0x100_0000 + get_or s 5 0 * 0x1_0000 + get_or s 6 0 * 0x100 + get_or s 7 0
 unfolding number
-number-eight s h =
+number-worth s h =
     let z : number (take 0 s) ≡ 0 = refl in
     let e : number s ≡ number (take 8 s) = ap number (sym (take_all 8 s (omega arith))) in
     omega (
@@ -140,6 +140,50 @@ number-eight s h =
       number_step s 0 6 (omega arith),
       number_step s 0 7 (omega arith),
     )
+
+-- ---- the octets of a number in the other order: eight octets may be read as one word so, and turned
+
+abbrev pub turn : ℕ → ℕ → ℕ
+turn n x = number (reverse (octets n x))
+
+-- octets in the other order are octets
+octets-snoc : (l : List ℕ) (b : ℕ) → Octets l → b < 256 → Octets (l ++ (b ∷ []))
+octets-snoc [] b o h zero = h
+octets-snoc [] b o h (suc k) = lit< tt
+octets-snoc (a ∷ l) b o h zero = o 0
+octets-snoc (a ∷ l) b o h (suc k) = octets-snoc l b (λ j. o (suc j)) h k
+
+octets-reverse : (l : List ℕ) → Octets l → Octets (reverse l)
+octets-reverse [] o = o
+octets-reverse (a ∷ l) o = rw (reverse-cons a l) (octets-snoc (reverse l) a (octets-reverse l (λ k. o (suc k))) (o 0))
+
+-- eight octets, turned twice
+pub turned-back : (l : List ℕ) → Octets l → length l ≡ 8 → turn 8 (number (reverse l)) ≡ number l
+turned-back l o e =
+    let n : length (reverse l) ≡ 8 = length-reverse l ∙ e in
+    let k : octets 8 (number (reverse l)) ≡ reverse l = rw n at (octets-number (reverse l) (octets-reverse l o)) in
+    rw (k, reverse-reverse l)
+
+-- one octet more before those that are summed the last first
+number-before : (s : List ℕ) (at next i : ℕ) → next ≡ suc at → at < length s → number (reverse (take (suc i) (drop at s))) ≡ number (reverse (take i (drop next s))) * 256 + get_or s at 0
+number-before s at next i e h = rw (e, drop-cons s at 0 h, reverse-cons, number-snoc)
+
+-- eight octets summed the last first
+pub number-eight : (s : List ℕ) (at : ℕ) → at + 8 ≤ length s
+    → number (reverse (take 8 (drop at s))) ≡ ((((((get_or s (at + 7) 0 * 256 + get_or s (at + 6) 0) * 256 + get_or s (at + 5) 0) * 256 + get_or s (at + 4) 0) * 256 + get_or s (at + 3) 0) * 256 + get_or s (at + 2) 0) * 256 + get_or s (at + 1) 0) * 256 + get_or s at 0
+unfolding number
+number-eight s at h =
+    rw (
+      number-before s at (at + 1) 7 (omega arith) (omega arith),
+      number-before s (at + 1) (at + 2) 6 (omega arith) (omega arith),
+      number-before s (at + 2) (at + 3) 5 (omega arith) (omega arith),
+      number-before s (at + 3) (at + 4) 4 (omega arith) (omega arith),
+      number-before s (at + 4) (at + 5) 3 (omega arith) (omega arith),
+      number-before s (at + 5) (at + 6) 2 (omega arith) (omega arith),
+      number-before s (at + 6) (at + 7) 1 (omega arith) (omega arith),
+      number-before s (at + 7) (at + 8) 0 (omega arith) (omega arith),
+    )
+    (omega arith)
 
 -- ---- a run of stores
 

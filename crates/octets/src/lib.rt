@@ -2,13 +2,13 @@
 // Rules: document 01, 'Messages' and 'Tags'. What each function means stands in specs/; no function asks anything of its caller.
 #![tactic(auto)]
 
-ghost use Rattle.std.specs.Prelude.{◌≡◌, ◌+◌, ◌-◌, ◌^◌, ◌<◌, ◌≤◌, length, take, drop};
+ghost use Rattle.std.specs.Prelude.{ℕ, List, ◌≡◌, ◌+◌, ◌-◌, ◌^◌, ◌<◌, ◌≤◌, length, take, drop};
 ghost use Rattle.octets.specs.Length.{encode_length};
-ghost use Rattle.octets.specs.Layout.{field_octets, size};
+ghost use Rattle.octets.specs.Layout.{Layout, field_octets, size};
 ghost use Rattle.octets.specs.Number.{number, octets, width_of, version_part, fill_part, bare};
 ghost use Rattle.octets.specs.Area.{Laid, Does};
 ghost use Rattle.octets.specs.Frame.{opened};
-ghost use Rattle.octets.specs.View.{to_end, LengthAt, NumberAt, DataAt, HeadingOf, EnclosedOf};
+ghost use Rattle.octets.specs.View.{to_end, Reads, LengthAt, NumberAt, DataAt, ListAt, HeadingOf, EnclosedOf};
 
 // What is wrong with octets that do not decode. The first three are of a length or a count alone.
 #[derive(Clone, Copy, PartialEq, Eq)]
@@ -23,6 +23,7 @@ pub enum Fault {
 }
 
 // How a command shows its right to a tag: not at all, or by a password. Any 64 bits are a password, zero too.
+// It is no Option: document 01 names a plain-or-password enum.
 #[derive(Clone, Copy, PartialEq, Eq)]
 pub enum Access {
     Plain,
@@ -145,7 +146,11 @@ impl<'a> Reader<'a> {
         let s = self.src;
         let at = self.at;
         let n = octets_of(width);
-        if self.left() < n {
+        // Two tests and not one of `left`: so the compiler knows that the place lies within the octets.
+        if s.len() < at {
+            return Err(Fault::Other);
+        }
+        if s.len() - at < n {
             return Err(Fault::Other);
         }
         Ok(Taken {
@@ -204,6 +209,9 @@ fn number_of(s: &[u8]) -> u64
 
 // ---- the fields, at a place
 
+// Slice and place come apart here and in the crates above: document 01 names a reader by value, which stays where it
+// stands, and C hands over the two.
+
 // The length or count that stands at a place.
 pub fn read_length(s: &[u8], at: usize) -> Reading<usize>
     ensures { LengthAt s.now at result }
@@ -257,6 +265,40 @@ pub fn length_size(n: usize) -> usize
     if n < 128 { 1 } else { 2 }
 }
 
+// ---- lists, whose entries are read one by one
+
+// How one entry of a list is read.
+pub trait Entry: Copy {
+    type Value: Copy;
+
+    ghost Shown: { Type 0 };
+
+    ghost layout: { Self → Layout Shown };
+
+    ghost shown: { Self → List ℕ → Self.Value → Shown };
+
+    fn read(self, s: &[u8], at: usize) -> Reading<Self::Value>
+        ensures { Reads ((layout self).get (drop at s.now)) (shown self s.now) (λ t. t.next ≤ length s.now) s.now result };
+}
+
+// A list: its count, and its entries, gone over one by one.
+pub fn read_list<E: Entry>(s: &[u8], at: usize, entry: E) -> Reading<Entries>
+    ensures { ListAt (E.layout entry) s.now at result }
+{
+    let Taken {
+        value: count,
+        next: start,
+    } = read_length(s, at)?;
+    let mut place = start;
+    for _ in 0..count {
+        place = entry.read(s, place)?.next;
+    }
+    Ok(Taken {
+        value: Entries { start, count },
+        next: place,
+    })
+}
+
 // ---- fields that are written: whole or not at all
 
 // Copies octets to a place, if the area has room for all of them.
@@ -281,18 +323,36 @@ pub fn write_length(out: &mut [u8], at: usize, n: usize) -> usize
     if 16384 <= n {
         return at;
     }
-    if n < 128 {
-        return copy(out, at, &[n as u8]);
+    if out.len() < at {
+        return at;
     }
-    copy(out, at, &[(128 + n / 256) as u8, (n % 256) as u8])
+    if out.len() - at < length_size(n) {
+        return at;
+    }
+    if n < 128 {
+        out[at] = n as u8;
+        return at + 1;
+    }
+    let i = at + 1;
+    out[at] = (128 + n / 256) as u8;
+    out[i] = (n % 256) as u8;
+    at + 2
 }
 
 // Writes the low octets of a number, as many as its field has, if the area has room for all of them.
 pub fn write_number(out: &mut [u8], at: usize, width: Width, x: u64) -> usize
     ensures { Laid out.old at (octets (width_of width) x) out.new result }
 {
+    let n = octets_of(width);
+    if out.len() < at {
+        return at;
+    }
+    if out.len() - at < n {
+        return at;
+    }
     let eight = x.to_be_bytes();
-    copy(out, at, &eight[8 - octets_of(width)..])
+    out[at..at + n].copy_from_slice(&eight[8 - n..]);
+    at + n
 }
 
 // ---- bits of the version octet and of a tag
@@ -331,6 +391,7 @@ pub enum Unwritten {
 pub type Written = Result<usize, Unwritten>;
 
 // Writes what stands before a body of that many octets, if the message may be written and the area has room for the whole of it; the body starts behind it.
+// The operation type is its number: document 01 names a match on it, with ranges.
 pub fn open_message(out: &mut [u8], version: u8, kind: u8, body: usize) -> Written
     ensures { Does (opened version kind body out.old) result out.new }
 {
@@ -344,7 +405,10 @@ pub fn open_message(out: &mut [u8], version: u8, kind: u8, body: usize) -> Writt
     if out.len() < start + body {
         return Err(Unwritten::NoRoom);
     }
-    copy(out, 0, &[version << 4, 1, kind, 0]);
+    out[0] = version << 4;
+    out[1] = 1;
+    out[2] = kind;
+    out[3] = 0;
     write_length(out, 4, body);
     Ok(start)
 }

@@ -9,9 +9,11 @@ use lib.ListN.{length, take, drop, length-append, length-drop}
 use lib.Seq.{length-take-le}
 use lib.Dec.{ltb}
 use borrow.Author.Tests.{ltb-false}
-use Rattle.store.specs.Model.{State, Sound}
+use Rattle.store.specs.Model.{State, Shows, Sound}
 use Rattle.records.specs.Turn.{Turned, more, answered, ended, turn}
-use Rattle.records.specs.Entry.{Word, wants-more, used-written, closed, refusal, word_of, over, Out, out_of, step_out, Stepped}
+use Rattle.records.specs.Entry.{Word, wants-more, used-written, closed, refusal, word_of, head_after, over, Out, out_of, step_out, Stepped}
+use Rattle.std.specs.Prelude.{Option}
+use Rattle.admission.specs.declared.Head.{Head}
 use Rattle.records.specs.declared.Outcome.{Outcome}
 use Rattle.records.proofs.Turns.{Means, turn-means}
 
@@ -39,11 +41,16 @@ module _ (u : State) (n : ℕ) (last : Bool) (s old : List ℕ) (at : ℕ) where
   by_turn false (answered v used line) e m h = (m.0, m.1, m.2, over-within old line at (omega (arith, ltb-false (length old) (at + 4108) e)) h)
   by_turn false (ended lines) e m h = over-within old lines at (omega (arith, ltb-false (length old) (at + 4108) e)) h
 
-  module _ (r : Outcome) (new table pool : List ℕ) (d : Stepped (step_out u n last s old at) r new table pool) where
+module _ (n : ℕ) (last : Bool) (s old : List ℕ) (at : ℕ) (h : Head) (r : Option Outcome) (t p new table pool : List ℕ) where
+  -- by the entry's promise, for a unit that is sound before
+  module _ (sound : Sound h t p) (d : (u : State) → Shows u h t p → Stepped (step_out u n last s old at) h r new table pool) where
     -- an area keeps its length
-    pub step-learns : length new ≡ length old → Learns n last (length s) at (length old) (word_of r.turn)
+    pub step-learns : length new ≡ length old → Learns n last (length s) at (length old) (word_of r)
     unfolding step_out
-    step-learns h = rw d.says (by_turn (ltb (length old) (at + 4108)) (turn u n last s) refl (turn-means u n s [] last) (sym (ap length d.area) ∙ h))
+    step-learns e =
+        let u = sound.unit in
+        let o = d u sound.shown in
+        rw o.says (by_turn u n last s old at (ltb (length old) (at + 4108)) (turn u n last s) refl (turn-means u n s [] last) (sym (ap length o.area) ∙ e))
 
-    pub step-sound : Sound r.head table pool
-    step-sound = record { unit = (step_out u n last s old at).unit; shown = d.left }
+    pub step-sound : Sound (head_after h r) table pool
+    step-sound = record { unit = (step_out sound.unit n last s old at).unit; shown = (d sound.unit sound.shown).left }

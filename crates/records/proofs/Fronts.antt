@@ -132,6 +132,9 @@ module _ (n : ℕ) (s : List ℕ) where
                   → front_after n s ≡ whole (port_of (get_or s 2 0)) (take m (drop 5 s)) (drop (5 + m) s)
               look-whole h m e = look-request ∙ rw (le-ltb 2048 _ short, length-drop 5 s, le-ltb (length s - 5) _ h, ← e, drop-drop m 5 s)
 
+-- each way out of `look` but a record
+pub ruleset looks = (look-nothing, look-late, look-first, look-cut-mark, look-second, look-cut-port, look-port, look-cut-length, look-long, look-cut)
+
 -- ---- octets behind
 
 -- what more octets do not change, but for what stands behind a record

@@ -68,7 +68,7 @@ goes-on k u n last held [] more m z h f =
     let w : waits last ≡ 1 = ap waits m.0 in
     f u n true held [] (λ e. refl) (omega arith)
 goes-on k u n last held (y ∷ ys) more m z h f =
-    f u n last (held ++ y) ys (λ e. let q : ◌≡◌ {A = ℕ} 0 1 = cc m.0 in absurd (omega arith)) (omega (arith, length-append held y, length-append y (flatten ys)))
+    f u n last (held ++ y) ys (λ e. cc m.0) (omega (arith, length-append held y, length-append y (flatten ys)))
     ∙ ap (output_from u n) (append_assoc held y (flatten ys))
 
 driven-output : (k : ℕ) (u : State) (n : ℕ) (last : Bool) (held : List ℕ) (xs : List (List ℕ)) → (last ≡ true → xs ≡ []) → turns_for last held xs < k
@@ -81,7 +81,7 @@ driven-output (suc k) u n last held xs z h =
 -- however the input is cut into pieces, the loop prints the output for the whole of it, if it has a turn for each octet and each piece and two more
 pub pieces : (turns : ℕ) (xs : List (List ℕ)) → length (flatten xs) + length xs + 2 ≤ turns → driven turns xs ≡ output (flatten xs)
 unfolding driven output
-pieces turns xs h = driven-output turns first_unit 0 false [] xs (λ e. let z : ◌≡◌ {A = ℕ} 0 1 = cc in absurd (omega arith)) (omega arith)
+pieces turns xs h = driven-output turns first_unit 0 false [] xs (λ e. cc) (omega arith)
 
 -- ---- the limit of the count
 

@@ -3,29 +3,30 @@
 // the input is cut into pieces, calls one after another give `output` (proofs/Theorems). The caller reads, calls `step` and writes.
 #![tactic(auto)]
 
-ghost use Rattle.std.specs.Prelude.{◌≡◌, Bool, List, [], ◌∷◌, ℕ, ◌+◌, ◌*◌, ◌≤◌, ◌<◌, length};
+ghost use Rattle.std.specs.Prelude.{◌≡◌, Bool, List, [], ◌∷◌, ℕ, ◌+◌, ◌*◌, ◌≤◌, ◌<◌, length, Some};
 ghost use Rattle.octets.specs.Area.{Wrote};
 ghost use Rattle.store.specs.Model.{State, Shows, Sound};
 ghost use Rattle.records.specs.Text.{digits, hexadecimal_digit, pair, hexadecimal, answer_line, worded};
 ghost use Rattle.records.specs.Record.{port_of, whole, front_after};
 ghost use Rattle.records.specs.Output.{end_lines, stop_lines};
 ghost use Rattle.records.specs.Turn.{turned_by, turn};
-ghost use Rattle.records.specs.Entry.{look_in, LookPlace, length_of, Closes, Stepped, out_of, step_out};
+ghost use Rattle.records.specs.Entry.{look_in, LookPlace, Stepped, out_of, step_out};
 
 use admission::Head;
 use octets::Port;
-use responder::Sent;
+use responder::Reply;
 
 // The longest line: a number of ten digits, a space, 2,048 octets in hexadecimal, the line's end. The closing lines together are shorter.
 pub const LINE: usize = 4108;
 
 // ---- numbers and octets as text
 
+// No heap, so no String; and `write!` on a slice promises how many octets it writes, not which, as `Wrote` does here.
 fn write_digit(out: &mut [u8], at: usize, n: u64) -> usize
     requires { (at < length out.old) × (n < 10) }
     ensures { Wrote out.old at ((48 + n) ∷ []) out.new result }
 {
-    out[at] = 48 + n as u8;
+    out[at] = b'0' + n as u8;
     at + 1
 }
 
@@ -44,20 +45,20 @@ fn write_digits(out: &mut [u8], at: usize, places: usize, n: u64) -> usize
     write_digit(out, next, n % 10)
 }
 
+#[tactic(auto, unfolding(crate::specs::Text::hexadecimal_digit))]
 fn hexadecimal_digit(n: u8) -> u8
     requires { n < 16 }
     ensures { result ≡ hexadecimal_digit n }
 {
-    if n < 10 { 48 + n } else { 55 + n }
+    if n < 10 { b'0' + n } else { b'A' - 10 + n }
 }
 
 fn write_pair(out: &mut [u8], at: usize, x: u8) -> usize
     requires { at + 2 ≤ length out.old }
     ensures { Wrote out.old at (pair x) out.new result }
 {
-    let i = at + 1;
     out[at] = hexadecimal_digit(x / 16);
-    out[i] = hexadecimal_digit(x % 16);
+    out[at + 1] = hexadecimal_digit(x % 16);
     at + 2
 }
 
@@ -67,10 +68,8 @@ fn write_hexadecimal(out: &mut [u8], at: usize, s: &[u8]) -> usize
     ensures { Wrote out.old at (hexadecimal s.now) out.new result }
 {
     let mut next = at;
-    let mut i = 0;
-    while i < s.len() {
-        next = write_pair(out, next, s[i]);
-        i += 1;
+    for octet in s {
+        next = write_pair(out, next, *octet);
     }
     next
 }
@@ -119,15 +118,15 @@ fn write_stop(out: &mut [u8], at: usize, answered: u32) -> usize
 
 // What stands at the front of octets.
 #[derive(Clone, Copy)]
-enum Front {
+enum Front<'a> {
     Nothing,
     Wrong,
     Cut,
-    // A record. Its request begins with the sixth octet.
-    Whole { port: Port, len: usize },
+    // A record. Its request stands behind the first five octets.
+    Whole { port: Port, request: &'a [u8] },
 }
 
-// The port of a record; 0 or 1.
+// The port of a record; 0 or 1. A function, as `From` would have to stand beside `Port` in octets.
 fn port_of(n: u8) -> Port
     ensures { result ≡ port_of n }
 {
@@ -135,53 +134,44 @@ fn port_of(n: u8) -> Port
 }
 
 // The record that begins with the first of the octets, so many records having been answered before.
-fn look(answered: u32, s: &[u8]) -> Front
+#[tactic(auto, using(crate::proofs::Fronts::looks))]
+fn look(answered: u32, s: &[u8]) -> Front<'_>
     ensures { (look_in s.now result ≡ front_after answered s.now) × LookPlace s.now result }
 {
-    if s.len() == 0 {
+    let [first, behind @ ..] = s else {
         return Front::Nothing;
-    }
+    };
     if answered == u32::MAX {
         return Front::Wrong;
     }
-    if s[0] != 0x4d {
+    if *first != 0x4d {
         return Front::Wrong;
     }
-    if s.len() == 1 {
+    let [second, behind @ ..] = behind else {
         return Front::Cut;
-    }
-    if s[1] != 0x41 {
+    };
+    if *second != 0x41 {
         return Front::Wrong;
     }
-    if s.len() == 2 {
+    let [port, behind @ ..] = behind else {
         return Front::Cut;
-    }
-    if 1 < s[2] {
+    };
+    if 1 < *port {
         return Front::Wrong;
     }
-    if s.len() < 5 {
+    let [high, low, behind @ ..] = behind else {
         return Front::Cut;
-    }
-    let len = s[3] as usize * 256 + s[4] as usize;
+    };
+    let len = usize::from(u16::from_be_bytes([*high, *low]));
     if 2048 < len {
         return Front::Wrong;
     }
-    if s.len() - 5 < len {
+    if behind.len() < len {
         return Front::Cut;
     }
     Front::Whole {
-        port: port_of(s[2]),
-        len,
-    }
-}
-
-// How many octets the answer has. An area of 2,048 octets is never too short for it.
-fn length_of(sent: Sent) -> usize
-    ensures { result ≡ length_of sent }
-{
-    match sent {
-        Sent::Answer(n) => n,
-        Sent::NoRoom => 0,
+        port: port_of(*port),
+        request: &behind[..len],
     }
 }
 
@@ -196,8 +186,6 @@ pub enum Turn {
     Answered { used: usize, written: usize },
     // Reading stops: the closing lines are written.
     Ended { written: usize },
-    // The area has no room for a line: 300.
-    NoRoom,
 }
 
 // A turn, and the unit's head after it.
@@ -207,31 +195,8 @@ pub struct Outcome {
     pub turn: Turn,
 }
 
-// The octets are at their end: so is the log, if they are the last.
-fn end(answered: u32, last: bool, out: &mut [u8], at: usize) -> Turn
-    requires { at + 19 ≤ length out.old }
-    ensures { Closes last (end_lines answered) at result out.old out.new }
-{
-    if last {
-        let next = write_end(out, at, answered);
-        return Turn::Ended { written: next - at };
-    }
-    Turn::More
-}
-
-// The record is bad, if it is certain.
-fn stop(answered: u32, certain: bool, out: &mut [u8], at: usize) -> Turn
-    requires { at + 41 ≤ length out.old }
-    ensures { Closes certain (stop_lines answered) at result out.old out.new }
-{
-    if certain {
-        let next = write_stop(out, at, answered);
-        return Turn::Ended { written: next - at };
-    }
-    Turn::More
-}
-
 // Answers a record.
+// The unit comes as head, table and memory, as `respond` takes it and the C interface lends it.
 fn answer(
     head: Head,
     table: &mut [u64],
@@ -245,16 +210,15 @@ fn answer(
     requires sound { Sound head table.old pool.old }
     requires room { (at + 4108 ≤ length out.old) × (length request.now ≤ 2048) }
     ensures { (u : State) (last : Bool) (s : List ℕ) → Shows u head table.old pool.old
-        → Stepped (out_of u out.old at (turned_by u answered last (whole port request.now s))) result out.new table.new pool.new }
+        → Stepped (out_of u out.old at (turned_by u answered last (whole port request.now s))) head (Some result) out.new table.new pool.new }
 {
-    let mut area = [0u8; 2048];
-    let reply = responder::respond(head, table, pool, port, request, &mut area);
-    let after = reply.head;
-    let sent = reply.sent;
-    let len = length_of(sent);
-    let next = write_answer(out, at, answered as u64 + 1, octets::part(&area, 0, len));
+    let mut area = [0; 2048];
+    let Reply { head, sent } = responder::respond(head, table, pool, port, request, &mut area);
+    // An area of 2,048 octets is never too short for an answer.
+    let len = sent.unwrap_or(0);
+    let next = write_answer(out, at, answered as u64 + 1, &area[..len]);
     Outcome {
-        head: after,
+        head,
         turn: Turn::Answered {
             used: 5 + request.len(),
             written: next - at,
@@ -276,30 +240,30 @@ fn take_turn(
     requires sound { Sound head table.old pool.old }
     requires room { at + 4108 ≤ length out.old }
     ensures { (u : State) → Shows u head table.old pool.old
-        → Stepped (out_of u out.old at (turn u answered last octets.now)) result out.new table.new pool.new }
+        → Stepped (out_of u out.old at (turn u answered last octets.now)) head (Some result) out.new table.new pool.new }
 {
-    match look(answered, octets) {
-        Front::Nothing => Outcome {
-            head,
-            turn: end(answered, last, out, at),
-        },
-        Front::Wrong => Outcome {
-            head,
-            turn: stop(answered, true, out, at),
-        },
-        Front::Cut => Outcome {
-            head,
-            turn: stop(answered, last, out, at),
-        },
-        Front::Whole { port, len } => {
-            let request = octets::part(octets, 5, len);
-            answer(head, table, pool, answered, port, request, out, at)
+    let turn = match look(answered, octets) {
+        Front::Whole { port, request } => {
+            return answer(head, table, pool, answered, port, request, out, at);
         }
-    }
+        Front::Nothing if last => Turn::Ended {
+            written: write_end(out, at, answered) - at,
+        },
+        Front::Nothing => Turn::More,
+        Front::Cut if last => Turn::Ended {
+            written: write_stop(out, at, answered) - at,
+        },
+        Front::Cut => Turn::More,
+        Front::Wrong => Turn::Ended {
+            written: write_stop(out, at, answered) - at,
+        },
+    };
+    Outcome { head, turn }
 }
 
 // Answers the record that the octets begin with, or closes the log, or asks for more octets. So many records were answered before, and `last` says that nothing comes
-// behind the octets. The line is written from a place of the area on.
+// behind the octets. The line is written from a place of the area on. Where the area has no room for one (300), nothing is done and there is no outcome.
+// The area comes whole, with a place: `step_out` says also of the octets before the line that they stay.
 pub fn step(
     head: Head,
     table: &mut [u64],
@@ -309,22 +273,13 @@ pub fn step(
     last: bool,
     out: &mut [u8],
     at: usize,
-) -> Outcome
+) -> Option<Outcome>
     requires { Sound head table.old pool.old }
     ensures { (u : State) → Shows u head table.old pool.old
-        → Stepped (step_out u answered last octets.now out.old at) result out.new table.new pool.new }
+        → Stepped (step_out u answered last octets.now out.old at) head result out.new table.new pool.new }
 {
-    if out.len() < at {
-        return Outcome {
-            head,
-            turn: Turn::NoRoom,
-        };
+    if out.len().saturating_sub(at) < LINE {
+        return None;
     }
-    if out.len() - at < LINE {
-        return Outcome {
-            head,
-            turn: Turn::NoRoom,
-        };
-    }
-    take_turn(head, table, pool, answered, octets, last, out, at)
+    Some(take_turn(head, table, pool, answered, octets, last, out, at))
 }

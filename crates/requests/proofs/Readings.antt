@@ -1,6 +1,6 @@
 -- Reading a request: the form of what is read, each operation's body from the value in it, the table of operation types, and the whole request by its parts.
 use Prim.Native.Nat.{ℕ, zero, suc, ◌+◌, ◌<◌, ◌≤◌, zero-le}
-use mathlib.Core.Path.{◌≡◌, refl, sym, ap, subst, ◌∙◌}
+use mathlib.Core.Path.{◌≡◌, refl, sym, ap, ◌∙◌}
 use mathlib.Core.Logic.{◌⊎◌, ⊎_elim}
 use mathlib.Core.Bool.{Bool, true, false, ◌&&◌, cond}
 use mathlib.Core.List.{List, [], ◌∷◌}
@@ -10,60 +10,42 @@ use lib.Dec.{leb, ltb}
 use Rattle.std.specs.Prelude.{Result, Ok, Err, IsErrAnd}
 use Rattle.std.proofs.lemmas.Result.{err_from_is_err_and}
 use borrow.Author.Tests.{lt-ltb, lt-leb, leb-true, ltb-true, ltb-false}
-use Rattle.octets.specs.Reading.{Read, bad, ok, and_then, at_end, forget, Told, refused, fault_number}
+use Rattle.octets.specs.Reading.{Read, bad, ok, and_then, at_end, Told, refused, fault_number}
 use Rattle.octets.specs.Number.{decode_number}
-use Rattle.octets.specs.Layout.{Layout, numeral, data', seq, entries}
 use Rattle.octets.specs.Frame.{receive}
 use Rattle.octets.specs.View.{to_end, Reads, HeadingOf, EnclosedOf}
+use Rattle.octets.specs.declared.Access.{Access}
 use Rattle.octets.specs.declared.Access.TheVariants as a
-use Rattle.octets.specs.declared.Entries.{Entries}
 use Rattle.octets.specs.declared.Fault.{Fault}
 use Rattle.octets.specs.declared.Fault.TheVariants.{Missing, Longer, High, Other}
 use Rattle.octets.specs.declared.Form.{Form}
 use Rattle.octets.specs.declared.Form.TheVariants as f
 use Rattle.octets.specs.declared.Heading.{Heading}
 use Rattle.octets.specs.declared.Taken.{Taken}
-use Rattle.octets.proofs.Places.{here_end, bad-ok, bad-same, ok-val, went, end-there, end_more, end_back}
+use Rattle.octets.proofs.Places.{bad-ok, bad-same, ok-val, went, end-there, end_more, end_back}
 use Rattle.octets.proofs.Frames.{receive_all, decode-headless, decode-unenclosed, decode-body}
-use Rattle.tags.specs.Entry.{form_of, lock, Keyed, key, memory}
+use Rattle.tags.specs.Entry.{form_of, lock, Keyed, key}
 use Rattle.requests.specs.Command.{Command, kind_of, known, form_at}
 use Rattle.requests.specs.Request.{Body, body_of, request_body}
-use Rattle.requests.specs.View.{operation_kind, operation_body, whole_in, ListEnds, OperationPlace, DecodedAs, DecodedAt, Understood}
+use Rattle.requests.specs.View.{operation_kind, operation_body, whole_in, OperationPlace, DecodedAs, DecodedAt, Understood}
 use Rattle.requests.specs.declared.Operation.{Operation}
 use Rattle.requests.proofs.Requests.{Listed, form-is, row, request-lawful}
 
 -- ---- what is read is of the form that was asked for
 
--- whatever a layout reads is so
-abbrev Gives : {A : Type 0} → Layout A → (A → Type 0) → Type 0
-Gives {A} L P = (l : List ℕ) (a : A) (r : List ℕ) → L.get l ≡ ok a r → P a
-
-module _ {A B : Type 0} (L : Layout A) (M : Layout B) where
-  -- of one after the other: its first value is so if the first layout gives such, and its second if the second does
-  gives-first : (P : A → Type 0) → Gives L P → Gives (seq L M) (λ p. P p.0)
-  gives-first P h l p r e =
-      let v = went (L.get l) (λ x t. and_then (M.get t) (λ y u. ok (x, y) u)) p r e in
-      let z = went (M.get v.rest) (λ y u. ok (v.val, y) u) p r v.then in
-      subst P (ap (λ (q : A × B). q.0) (ok-val z.then)) (h l v.val v.rest v.first)
-
-  gives-second : (P : B → Type 0) → Gives M P → Gives (seq L M) (λ p. P p.1)
-  gives-second P h l p r e =
-      let v = went (L.get l) (λ x t. and_then (M.get t) (λ y u. ok (x, y) u)) p r e in
-      let z = went (M.get v.rest) (λ y u. ok (v.val, y) u) p r v.then in
-      subst P (ap (λ (q : A × B). q.1) (ok-val z.then)) (h v.rest z.val z.rest z.first)
-
--- an access, a tag with its access, memory data
-lock-form : (w : Form) → Gives (lock w) (λ x. form_of x ≡ w)
+-- an access
+lock-form : (w : Form) (l : List ℕ) (x : Access) (r : List ℕ) → (lock w).get l ≡ ok x r → form_of x ≡ w
 lock-form f.Plain l x r e = rw (← ok-val e)
 lock-form f.Password l x r e =
     let v = went (decode_number 8 l) (λ p t. ok (a.Password p) t) x r e in
     rw (← ok-val v.then)
 
-pub key-form : (w : Form) → Gives (key w) (λ k. form_of k.1 ≡ w)
-key-form w = gives-second (numeral 8) (lock w) (λ x. form_of x ≡ w) (lock-form w)
-
-pub memory-form : (w : Form) → Gives (memory w) (λ h. form_of (h).0.1 ≡ w)
-memory-form w = gives-first (key w) data' (λ k. form_of k.1 ≡ w) (key-form w)
+-- a tag with its access
+key-form : (w : Form) (l : List ℕ) (k : Keyed) (r : List ℕ) → (key w).get l ≡ ok k r → form_of k.1 ≡ w
+key-form w l k r e =
+    let v = went (decode_number 8 l) (λ n t. and_then ((lock w).get t) (λ x u. ok (n, x) u)) k r e in
+    let z = went ((lock w).get v.rest) (λ x u. ok (v.val, x) u) k r v.then in
+    ap (λ (q : Keyed). form_of q.1) (sym (ok-val z.then)) ∙ lock-form w v.rest z.val z.rest z.first
 
 -- ---- what is read to the last octet
 
@@ -72,13 +54,34 @@ module _ {V A : Type 0} {p : Read A} {shown : V → A} {Place : Taken V → Type
   pub whole : {t : Taken V} → Reads p shown Place s (Ok t) → whole_in shown (to_end s t) ≡ at_end p
   whole {t} e = rw (← e.says) (go (ltb t.next (length s)) refl)
     where
-      go : (b : Bool) → ltb t.next (length s) ≡ b → whole_in shown (cond b (Err Other) (Ok t.value)) ≡ at_end (ok (shown t.value) (drop t.next s))
+      go : (b : Bool) → ltb t.next (length s) ≡ b
+          → whole_in shown (cond b (Err Other) (Ok t.value)) ≡ at_end (ok (shown t.value) (drop t.next s))
       go true h = sym (end_more s (shown t.value) t.next (ltb-true _ _ h))
       go false h = sym (end-there s (shown t.value) t.next (ltb-false _ _ h))
 
   -- a fault, where something does
   pub behind : {t : Taken V} {f : Fault} → Reads p shown Place s (Ok t) → Err f ≡ to_end s t → bad f ≡ at_end p
   behind {t} e h = let w : whole_in shown (to_end s t) ≡ at_end p = whole e in rw (← h) at w
+
+  -- where to_end gives a value it is that one, and the octets end there
+  pub at-end : {t : Taken V} {v : V} → Reads p shown Place s (Ok t) → Ok v ≡ to_end s t
+      → (v ≡ t.value) × (length s ≤ t.next)
+  at-end {t} {v} e h = go (ltb t.next (length s)) refl h
+    where
+      go : (b : Bool) → ltb t.next (length s) ≡ b → ◌≡◌ {A = Result V Fault} (Ok v) (cond b (Err Other) (Ok t.value))
+          → (v ≡ t.value) × (length s ≤ t.next)
+      go true q k = let z : ◌≡◌ {A = ℕ} 0 1 = cc in absurd (omega arith)
+      go false q k = (cc, ltb-false _ _ q)
+
+  -- where it gives a fault they go on
+  pub not-end : {t : Taken V} {f : Fault} → Reads p shown Place s (Ok t) → Err f ≡ to_end s t
+      → (f ≡ Other) × (t.next < length s)
+  not-end {t} {f} e h = go (ltb t.next (length s)) refl h
+    where
+      go : (b : Bool) → ltb t.next (length s) ≡ b → ◌≡◌ {A = Result V Fault} (Err f) (cond b (Err Other) (Ok t.value))
+          → (f ≡ Other) × (t.next < length s)
+      go true q k = (cc, ltb-true _ _ q)
+      go false q k = let z : ◌≡◌ {A = ℕ} 0 1 = cc in absurd (omega arith)
 
 module _ {A B : Type 0} (g : A → B) where
   -- under a constructor a fault is the same
@@ -100,35 +103,37 @@ handed {T} {r} {f} h = let p = err_from_is_err_and r h in p.1 ∙ ap (λ (g : Fa
 -- ---- the body of one operation
 
 -- a body that does not read
-pub decoded-bad : {x : Command} {w : Form} {s : List ℕ} {at : ℕ} {r : Result Operation Fault} {f : Fault} → IsErrAnd r (λ g. g ≡ f)
+pub decoded-bad : {x : Command} {w : Form} {s : List ℕ} {at : ℕ} {r : Result Operation Fault} {f : Fault}
+    → IsErrAnd r (λ g. g ≡ f)
     → bad f ≡ at_end ((body_of x w).get (drop at s)) → DecodedAs x w s at r
 decoded-bad h e = rw (handed h) (record { says = e; place = tt })
 
 -- a tag that is all of the body of x, under the constructors of an operation and of what it asks
-module _ (x : Command) {w : Form} {s : List ℕ} {at : ℕ} (g : Keyed → Body) (row : (l : List ℕ) → (body_of x w).get l ≡ and_then ((key w).get l) (λ k r. ok (g k) r)) where
-  pub tag-bad : {r : Result Operation Fault} {f : Fault} → IsErrAnd r (λ g. g ≡ f) → bad f ≡ at_end ((key w).get (drop at s)) → DecodedAs x w s at r
+module _ (x : Command) {w : Form} {s : List ℕ} {at : ℕ} (g : Keyed → Body)
+    (row : (l : List ℕ) → (body_of x w).get l ≡ and_then ((key w).get l) (λ k r. ok (g k) r)) where
+  pub tag-bad : {r : Result Operation Fault} {f : Fault} → IsErrAnd r (λ g. g ≡ f)
+      → bad f ≡ at_end ((key w).get (drop at s)) → DecodedAs x w s at r
   tag-bad h e = decoded-bad h (rw row (under-bad g _ e))
 
-  pub tag-good : {k : Keyed} {y : Operation} → ok k [] ≡ at_end ((key w).get (drop at s)) → operation_body s y ≡ g k → operation_kind y ≡ kind_of x (form_of k.1) → OperationPlace s y
+  pub tag-good : {k : Keyed} {y : Operation} → ok k [] ≡ at_end ((key w).get (drop at s)) → operation_body s y ≡ g k
+      → operation_kind y ≡ kind_of x (form_of k.1) → OperationPlace s y
       → DecodedAs x w s at (Ok y)
   tag-good {k} {y} e i j p =
       let n : form_of k.1 ≡ w = key-form w (drop at s) k [] ((end_back ((key w).get (drop at s)) k [] (sym e)).0) in
       record { says = rw (row, i) (under-ok g _ e); place = (j ∙ ap (kind_of x) n, p) }
 
--- a list that was read to the last octet ends where the octets end
-pub list-ends : {A : Type 0} (L : Layout A) (s : List ℕ) (x : Entries) (next : ℕ) → length s ≤ next
-    → (x.start ≤ length s) × (next ≤ length s) × (forget (entries L x.count (drop x.start s)) ≡ ok tt (drop next s)) → ListEnds L s x
-list-ends L s x next h p = (p.0, p.2 ∙ ap (λ (l : List ℕ). ok tt l) (here_end s next h))
-
 -- ---- the table of operation types
 
 -- a body of the table is read as the body of its operation
-pub decoded-at : {x : Command} {w : Form} {kind : ℕ} {s : List ℕ} {at : ℕ} {r : Result Operation Fault} → DecodedAs x w s at r → kind ≡ kind_of x w → Listed x w → DecodedAt kind s at r
+pub decoded-at : {x : Command} {w : Form} {kind : ℕ} {s : List ℕ} {at : ℕ} {r : Result Operation Fault}
+    → DecodedAs x w s at r → kind ≡ kind_of x w → Listed x w → DecodedAt kind s at r
 decoded-at {x} {w} {kind} {s} {at} e k t = rw k (record { says = rw (row x w t) e.says; place = e.place })
 
 -- the same of a body that one call reads in either form
-pub decoded-either : {x : Command} {w : Form} {kind : ℕ} {s : List ℕ} {at : ℕ} {r : Result Operation Fault} → DecodedAs x w s at r → w ≡ form_at kind
-    → (kind ≡ kind_of x f.Plain) ⊎ (kind ≡ kind_of x f.Password) → Listed x f.Plain → Listed x f.Password → DecodedAt kind s at r
+pub decoded-either : {x : Command} {w : Form} {kind : ℕ} {s : List ℕ} {at : ℕ} {r : Result Operation Fault}
+    → DecodedAs x w s at r → w ≡ form_at kind
+    → (kind ≡ kind_of x f.Plain) ⊎ (kind ≡ kind_of x f.Password) → Listed x f.Plain → Listed x f.Password
+    → DecodedAt kind s at r
 decoded-either {x} {w} {kind} {s} {at} {r} e q p t u = ⊎_elim (go f.Plain t) (go f.Password u) p
   where
     go : (v : Form) → Listed x v → kind ≡ kind_of x v → DecodedAt kind s at r
@@ -159,7 +164,7 @@ abbrev pub types : List ℕ
 types = from 65 6 (from 0 7 [])
 
 -- a type between the columns of the table or past them is in no row of it
-unknown : (k : ℕ) → 6 < k → (65 ≤ k → 70 < k) → known k ≡ false
+pub unknown : (k : ℕ) → 6 < k → (65 ≤ k → 70 < k) → known k ≡ false
 unfolding known
 unknown k h g = rw (lt-leb k 6 h) (go (leb 65 k) refl)
   where
@@ -169,10 +174,12 @@ unknown k h g = rw (lt-leb k 6 h) (go (leb 65 k) refl)
 
 -- and so is one that is none of the thirteen
 pub unknown-others : (k : ℕ) → Others k types → known k ≡ false
-unknown-others k o = unknown k (others-past k 0 7 [] (others-rest k 65 6 (from 0 7 []) o) zero-le) (others-past k 65 6 (from 0 7 []) o)
+unknown-others k o =
+    unknown k (others-past k 0 7 [] (others-rest k 65 6 (from 0 7 []) o) zero-le) (others-past k 65 6 (from 0 7 []) o)
 
 -- no body is read for it
-pub decoded-unknown : {kind : ℕ} {s : List ℕ} {at : ℕ} → 6 < kind → (65 ≤ kind → 70 < kind) → DecodedAt kind s at (Err Other)
+pub decoded-unknown : {kind : ℕ} {s : List ℕ} {at : ℕ} → 6 < kind → (65 ≤ kind → 70 < kind)
+    → DecodedAt kind s at (Err Other)
 unfolding request_body
 decoded-unknown {kind} h g = record { says = rw (unknown kind h g); place = tt }
 
@@ -194,7 +201,8 @@ module _ {s : List ℕ} (k : length s ≤ 2048) where
   -- nor are octets without a heading
   pub request-headless : {f : Fault} → HeadingOf s (Err f) → Understood s (Err f)
   request-headless {f} e = record {
-    says = rw (receive_all request_body request-lawful s k, decode-headless request_body request-lawful s _ e.says) (fault-told f);
+    says = rw (receive_all request_body request-lawful s k, decode-headless request_body request-lawful s _ e.says)
+        (fault-told f);
     place = tt;
   }
 
@@ -215,7 +223,8 @@ module _ {s : List ℕ} (k : length s ≤ 2048) where
       }
 
       -- a body that reads
-      pub request-good : {y : Operation} → DecodedAt h.kind s at (Ok y) → Understood s (Ok (record { version = h.version; operation = y }))
+      pub request-good : {y : Operation} → DecodedAt h.kind s at (Ok y)
+          → Understood s (Ok (record { version = h.version; operation = y }))
       request-good g = record {
         says = rw (receive_all request_body request-lawful s k, decode-body request_body request-lawful s _ _ _ e.says _ i.says, ← g.says, g.place.0);
         place = (e.place.1, g.place.1);

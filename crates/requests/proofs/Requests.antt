@@ -80,10 +80,12 @@ row c.bulk_write f.Plain t = refl
 row c.bulk_write f.Password t = refl
 
 -- so a body that is written in the frame of its type is the request written
-pub sent-is : (b : Body) (w : Form) → Listed (command_of b) w → {A : Type 0} (L : Layout A) (a : A) → L.put a ≡ body_put w b → L.fits a ≡ body_fits w b → (version : ℕ) (old : List ℕ)
+pub sent-is : (b : Body) (w : Form) → Listed (command_of b) w → {A : Type 0} (L : Layout A) (a : A)
+    → L.put a ≡ body_put w b → L.fits a ≡ body_fits w b → (version : ℕ) (old : List ℕ)
     → sent L version (kind_of (command_of b) w) a old ≡ request_sent (request version w b) old
 unfolding sent encode writable
-sent-is b w t L a p f version old = rw (row (command_of b) w t, p, f, eq-eqb (command_number (command_of b)) (command_number (command_of b)) refl)
+sent-is b w t L a p f version old =
+    rw (row (command_of b) w t, p, f, eq-eqb (command_number (command_of b)) (command_number (command_of b)) refl)
 
 -- ---- bodies read back
 

@@ -29,7 +29,8 @@ request-read-written s m o e =
     read-written request_body request-lawful s m o (x.1 ∙ ap (λ (r : List ℕ). ok m r) (read_whole request_body request-lawful s m x.0 x.1))
 
 -- the same of the code: what a writer of requests wrote, from slices that describe a request or directly, the reader tells as that request
-pub request-trip : (b : Bool) (m : Message Body) (old new : List ℕ) (n : ℕ) (r : Result Request Fault) → Does (described b (request_sent m old) old) (Ok n) new → Understood (take n new) r
+pub request-trip : (b : Bool) (m : Message Body) (old new : List ℕ) (n : ℕ) (r : Result Request Fault)
+    → Does (described b (request_sent m old) old) (Ok n) new → Understood (take n new) r
     → request_in (take n new) r ≡ message m
 request-trip true m old new n r d u =
     let x = written-front (request_writable m) (request_octets m) old new n d in
@@ -37,5 +38,6 @@ request-trip true m old new n r d u =
 request-trip false m old new n r d u = let x = d.says in let z : ◌≡◌ {A = ℕ} 0 1 = cc in absurd (omega arith)
 
 -- and what the reader tells as a request is written again as those octets
-pub request-again : (s : List ℕ) (m : Message Body) (r : Result Request Fault) → Octets s → Understood s r → request_in s r ≡ message m → (s ≡ request_octets m) × (request_writable m ≡ true)
+pub request-again : (s : List ℕ) (m : Message Body) (r : Result Request Fault) → Octets s → Understood s r
+    → request_in s r ≡ message m → (s ≡ request_octets m) × (request_writable m ≡ true)
 request-again s m r o u e = request-read-written s m o (sym u.says ∙ e)

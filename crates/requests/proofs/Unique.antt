@@ -45,12 +45,15 @@ body_is s (o.Allocate x) u h = let e = span-is s x.initial h in λ i. o.Allocate
 body_is s (o.Free access tag) u h = refl
 body_is s (o.Read access tag) u h = refl
 body_is s (o.Write access tag p) u h = ap (o.Write access tag) (span-is s p h)
-body_is s (o.BulkRead w list) u h = rw (form-is c.bulk_read w tt) (ap (o.BulkRead w) (list-is s (key w) (key-lawful w) u list h.0 h.1))
-body_is s (o.BulkWrite w list) u h = rw (form-is c.bulk_write w tt) (ap (o.BulkWrite w) (list-is s (memory w) (memory-lawful w) u list h.0 h.1))
+body_is s (o.BulkRead w list) u h =
+    rw (form-is c.bulk_read w tt) (ap (o.BulkRead w) (list-is s (key w) (key-lawful w) u list h.0 h.1))
+body_is s (o.BulkWrite w list) u h =
+    rw (form-is c.bulk_write w tt) (ap (o.BulkWrite w) (list-is s (memory w) (memory-lawful w) u list h.0 h.1))
 
 -- and so is a whole request
 request-is : (s : List ℕ) (r : Result Request Fault) → Octets s → RequestPlace s r → placed s (request_in s r) ≡ r
-request-is s (Ok q) u h = let e = body_is s q.operation u h.1 in λ i. Ok (record { version = q.version; operation = e i })
+request-is s (Ok q) u h =
+    let e = body_is s q.operation u h.1 in λ i. Ok (record { version = q.version; operation = e i })
 request-is s (Err f) u h = refl
 
 -- ---- the promises

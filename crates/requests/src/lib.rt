@@ -19,7 +19,8 @@ use octets::{Access, Entries, Fault, Form, Heading, Span, Taken, Written};
 use resources::Allocation;
 use tags::Key;
 
-// What a request asks. A single operation carries its access; in a bulk list each entry has its own, and the operation says whether the entries have passwords.
+// What a request asks. A single operation carries its access, as document 01 names it; in a bulk list each entry has
+// its own, and the operation says whether the entries have passwords.
 #[derive(Clone, Copy)]
 pub enum Operation {
     // Tags, always plain.
@@ -51,8 +52,9 @@ pub fn read_request(s: &[u8]) -> Result<Request, Fault>
     Ok(Request { version, operation })
 }
 
-// The body of an operation type, from a place to the last octet. A single operation is read by one call, which the compiler puts here, so that what it returns is not
-// stored and copied; a list by two, in each of which the form is known: its entries are gone over quicker.
+// The body of an operation type, from a place to the last octet. A single operation is read by one call, which the
+// compiler puts here, so that what it returns is not stored and copied; a list by two, in each of which the form is
+// known: its entries are gone over quicker.
 fn read_body(s: &[u8], at: usize, kind: u8) -> Result<Operation, Fault>
     ensures { DecodedAt kind s.now at result }
 {
@@ -108,6 +110,7 @@ fn read_resources(s: &[u8], at: usize) -> Result<Operation, Fault>
 }
 
 // Asks for resource information of tags.
+// Writers take a tag and its access apart, and lists as slices side by side: so the C interface hands them over.
 pub fn write_resources(out: &mut [u8], version: u8, tags: &[u64]) -> Written
     ensures { Does (request_sent (request version Form.Plain (b.resource_information (keys_of Form.Plain tags.now []))) out.old) result out.new }
 {
@@ -164,7 +167,8 @@ pub fn write_read(out: &mut [u8], version: u8, access: Access, tag: u64) -> Writ
 
 // ---- write
 
-// Memory data, read by its parts: tags::read_memory is too large to be inlined, and what it returns would be stored and copied on.
+// Memory data, read by its parts: tags::read_memory is too large to be inlined, and what it returns would be stored
+// and copied on.
 fn read_write(s: &[u8], at: usize, form: Form) -> Result<Operation, Fault>
     ensures { DecodedAs c.write form s.now at result }
 {
@@ -189,7 +193,8 @@ fn read_bulk_read(s: &[u8], at: usize, form: Form) -> Result<Operation, Fault>
     Ok(Operation::BulkRead(form, list))
 }
 
-// A list of any number of tags, with a password each or plain: then no passwords are handed over. Where they are not one for every tag, 16.
+// A list of any number of tags, with a password each or plain: then no passwords are handed over. Where they are not
+// one for every tag, 16.
 pub fn write_bulk_read(
     out: &mut [u8],
     version: u8,
@@ -212,8 +217,8 @@ fn read_bulk_write(s: &[u8], at: usize, form: Form) -> Result<Operation, Fault>
     Ok(Operation::BulkWrite(form, list))
 }
 
-// A list of any number of tags with data, and a password each or plain. The data of entry i is the part of `src` that starts at start i and has length i. Where the
-// slices are not of one length, or a part does not lie within `src`, 16.
+// A list of any number of tags with data, and a password each or plain. The data of entry i is the part of `src` that
+// starts at start i and has length i. Where the slices are not of one length, or a part does not lie within `src`, 16.
 pub fn write_bulk_write(
     out: &mut [u8],
     version: u8,

@@ -7,12 +7,13 @@ ghost use Rattle.std.specs.Prelude.{◌≡◌, ◌+◌, ◌*◌, ◌≤◌, ◌<
 ghost use Rattle.octets.specs.Layout.{put_all};
 ghost use Rattle.octets.specs.Area.{Does, Wrote};
 ghost use Rattle.octets.specs.Frame.{sent};
-ghost use Rattle.octets.specs.View.{Walked};
 ghost use Rattle.tags.specs.Entry.{form_of};
 ghost use Rattle.resources.specs.Resource.{mode_known, allocation, room, resource, resources_of, resources_sent, every_mode};
 ghost use Rattle.resources.specs.View.{ModeAt, AllocationAt, RoomAt, ResourceAt, ResourcesAt};
 
-use octets::{Access, Entries, Fault, Form, Reading, Span, Taken, Unwritten, Width, Written};
+use octets::{
+    Access, Entries, Entry, Fault, Form, Reading, Span, Taken, Unwritten, Width, Written,
+};
 
 // ---- modes
 
@@ -177,18 +178,24 @@ pub fn read_resource(s: &[u8], at: usize) -> Reading<Resource>
     Ok(Taken { value, next })
 }
 
-fn walk_resources(s: &[u8], start: usize, count: usize) -> Reading<Entries>
-    requires { start ≤ length s.now }
-    ensures { Walked resource s.now start count result }
-{
-    let mut at = start;
-    for _ in 0..count {
-        at = read_resource(s, at)?.next;
+// An entry of the list of resource information, as the list's reader takes it.
+#[derive(Clone, Copy)]
+struct ResourceEntry;
+
+impl Entry for ResourceEntry {
+    ghost use Rattle.resources.specs.declared.Resource.{Resource};
+
+    type Value = Resource;
+
+    ghost Shown = { Resource };
+
+    ghost layout = { λ _. resource };
+
+    ghost shown = { λ _ _ x. x };
+
+    fn read(self, s: &[u8], at: usize) -> Reading<Resource> {
+        read_resource(s, at)
     }
-    Ok(Taken {
-        value: Entries { start, count },
-        next: at,
-    })
 }
 
 // The body of resource information: what a unit can take, and where the list of tags stands.
@@ -202,8 +209,7 @@ pub fn read_resources(s: &[u8], at: usize) -> Reading<Resources>
     ensures { ResourcesAt s.now at result }
 {
     let Taken { value: room, next } = read_room(s, at)?;
-    let Taken { value: count, next } = octets::read_length(s, next)?;
-    let Taken { value: list, next } = walk_resources(s, next, count)?;
+    let Taken { value: list, next } = octets::read_list(s, next, ResourceEntry)?;
     let value = Resources { room, list };
     Ok(Taken { value, next })
 }

@@ -152,7 +152,7 @@ stores_both = (refl, refl)
 
 -- one octet is not none
 one_none : {x : ℕ} → x ∷ [] ≡ [] → ⊥
-one_none e = let z : ◌≡◌ {A = ℕ} 1 0 = ap length e in omega (arith, z)
+one_none e = cc
 
 -- the status of a denial
 abbrev status_of : Result → ℕ

@@ -1,23 +1,30 @@
--- Slices side by side as they grow by an entry: the first k entries, and behind them one more. Used for what is told of tags and for what a bulk read chooses.
-use Prim.Native.Nat.{ℕ, zero, suc, ◌+◌, ◌-◌, ◌<◌, ◌≤◌}
+-- Arrays side by side as they grow by an entry: the first entries, and behind them one more. Used for what is told of
+-- tags, for what a bulk read chooses and for the names that a bulk write notes.
+use Prim.Native.Nat.{ℕ, zero, suc, ◌+◌, ◌<◌, ◌≤◌}
 use mathlib.Core.Path.{◌≡◌, refl}
 use mathlib.Core.Bool.{true}
 use mathlib.Core.List.{List, [], ◌∷◌, ◌++◌}
 use native.Mathlib.Omega.{arith}
 use native.Mathlib.Numerals.{add-one}
-use lib.ListN.{length, get_or, set, take, drop, length-set, get_or-append}
+use lib.ListN.{length, get_or, set, take, length-set, get_or-append}
 use lib.Seq.{length-take-le, take-suc-set, get_or_at}
 use borrow.Author.Tests.{le-leb}
 use Rattle.octets.specs.Layout.{listed, every}
 use Rattle.octets.specs.declared.Access.TheVariants.{Plain}
 use Rattle.octets.specs.declared.Form.TheVariants as f
+use Rattle.octets.specs.declared.Span.{Span}
+use Rattle.octets.specs.View.{within}
 use Rattle.octets.proofs.Places.{both-are}
 use Rattle.octets.proofs.Lists.{every-is, every-at}
-use Rattle.lists.specs.Handed.{key_at, keys_of, held_at, inside_at}
-use Rattle.resources.specs.Resource.{resource_at, resources_of}
-use Rattle.responder.specs.Entry.{picked}
+use Rattle.lists.specs.Handed.{key_at, held_at, inside_at}
+use Rattle.resources.specs.Resource.{resource_at}
+use Rattle.resources.specs.declared.Resource.{Resource}
+use Rattle.responder.specs.Entry.{names_in, resources_in, picked}
+use Rattle.responder.specs.declared.Names.{Names}
+use Rattle.responder.specs.declared.Information.{Information}
+use Rattle.responder.specs.declared.Chosen.{Chosen}
 
--- ---- one slice
+-- ---- one array
 
 module _ (l : List ℕ) (k x : ℕ) (h : k < length l) where
   -- there is one more
@@ -36,10 +43,6 @@ module _ (l : List ℕ) (k x : ℕ) (h : k < length l) where
   pub grown-last : get_or (take (suc k) (set l k x)) k 0 ≡ x
   grown-last = rw (take-suc-set l k x h) (get_or_at (take k l) x [] 0 k first-length)
 
--- the part of an array that has so many entries
-pub part_length : (l : List ℕ) (k : ℕ) → length l ≡ 16 → k ≤ 16 → length (take (k - 0) l) ≡ k
-part_length l k e h = let q : k - 0 ≡ k = omega arith in rw q (length-take-le k l (omega arith))
-
 -- ---- lists by their places
 
 -- lists that agree at every place
@@ -53,46 +56,87 @@ listed_more f g k a h e = rw (listed_same f g k h, e)
 
 -- ---- the names of tags
 
-pub keys-more : (k : ℕ) (names : List ℕ) (x : ℕ) → k < length names
-    → keys_of f.Plain (take (k + 1) (set names k x)) [] ≡ keys_of f.Plain (take k names) [] ++ (x, Plain) ∷ []
-keys-more k names x h =
-    rw (add-one k, grown-length names k x h, length-take-le k names (omega arith))
-    (listed_more (key_at f.Plain (take (suc k) (set names k x)) []) (key_at f.Plain (take k names) []) k _
-    (λ i j. rw (grown-before names k x h i j))
-    (rw (grown-last names k x h)))
+pub names-more : (c : Names) (x : ℕ) → c.count < length c.tags
+    → names_in (record { tags = set c.tags c.count x; count = c.count + 1 }) ≡ names_in c ++ (x, Plain) ∷ []
+names-more c x h =
+    let k = c.count in
+    rw (add-one k, grown-length c.tags k x h, length-take-le k c.tags (omega arith))
+    (listed_more (key_at f.Plain (take (suc k) (set c.tags k x)) []) (key_at f.Plain (take k c.tags) []) k _
+    (λ i j. rw (grown-before c.tags k x h i j))
+    (rw (grown-last c.tags k x h)))
 
 -- ---- what is told of tags
 
 -- what is told of one tag more
-pub resources-more : (k : ℕ) (tags modes held sizes : List ℕ) (x m n z : ℕ) → k < length tags → k < length modes → k < length held → k < length sizes
-    → resources_of (take (k + 1) (set tags k x)) (take (k + 1) (set modes k m)) (take (k + 1) (set held k n)) (take (k + 1) (set sizes k z))
-    ≡ resources_of (take k tags) (take k modes) (take k held) (take k sizes) ++ record { tag = x; mode = m; held = n; size = z } ∷ []
-resources-more k tags modes held sizes x m n z a b c d =
-    rw (add-one k, grown-length tags k x a, length-take-le k tags (omega arith))
-    (listed_more (resource_at (take (suc k) (set tags k x)) (take (suc k) (set modes k m)) (take (suc k) (set held k n)) (take (suc k) (set sizes k z)))
-    (resource_at (take k tags) (take k modes) (take k held) (take k sizes)) k _
-    (λ i j. rw (grown-before tags k x a i j, grown-before modes k m b i j, grown-before held k n c i j, grown-before sizes k z d i j))
-    (rw (grown-last tags k x a, grown-last modes k m b, grown-last held k n c, grown-last sizes k z d)))
+pub resources-more : (c : Information) (r : Resource) → c.count < length c.tags → c.count < length c.modes
+    → c.count < length c.held → c.count < length c.sizes
+    → resources_in (record {
+      tags = set c.tags c.count r.tag;
+      modes = set c.modes c.count r.mode;
+      held = set c.held c.count r.held;
+      sizes = set c.sizes c.count r.size;
+      count = c.count + 1;
+    })
+    ≡ resources_in c ++ r ∷ []
+resources-more c r a b d e =
+    let k = c.count in
+    rw (add-one k, grown-length c.tags k r.tag a, length-take-le k c.tags (omega arith))
+    (listed_more (resource_at (take (suc k) (set c.tags k r.tag)) (take (suc k) (set c.modes k r.mode))
+    (take (suc k) (set c.held k r.held)) (take (suc k) (set c.sizes k r.size)))
+    (resource_at (take k c.tags) (take k c.modes) (take k c.held) (take k c.sizes)) k _
+    (λ i j. rw (
+      grown-before c.tags k r.tag a i j,
+      grown-before c.modes k r.mode b i j,
+      grown-before c.held k r.held d i j,
+      grown-before c.sizes k r.size e i j,
+    ))
+    (rw (
+      grown-last c.tags k r.tag a,
+      grown-last c.modes k r.mode b,
+      grown-last c.held k r.held d,
+      grown-last c.sizes k r.size e,
+    )))
 
 -- ---- data in the memory
 
-module _ (k : ℕ) (tags starts lengths pool : List ℕ) (x a n : ℕ) (h : k < length tags) (i : k < length starts) (j : k < length lengths) where
-  -- one entry more
-  pub picked_more : picked (k + 1) (set tags k x) (set starts k a) (set lengths k n) pool ≡ picked k tags starts lengths pool ++ ((x, Plain), take n (drop a pool)) ∷ []
-  picked_more =
-      rw (add-one k, grown-length tags k x h, length-take-le k tags (omega arith))
-      (listed_more (held_at f.Plain (take (suc k) (set tags k x)) [] (take (suc k) (set starts k a)) (take (suc k) (set lengths k n)) pool)
-      (held_at f.Plain (take k tags) [] (take k starts) (take k lengths) pool) k _
-      (λ y g. rw (grown-before tags k x h y g, grown-before starts k a i y g, grown-before lengths k n j y g))
-      (rw (grown-last tags k x h, grown-last starts k a i, grown-last lengths k n j)))
+module _ (c : Chosen) (pool : List ℕ) (x : ℕ) (i : Span) (z : ℕ) (g : c.count < length c.tags)
+    (h : c.count < length c.starts) (j : c.count < length c.lengths) where
+  -- the chosen entries and one more
+  abbrev pub with_more : Chosen
+  with_more = record {
+    tags = set c.tags c.count x;
+    starts = set c.starts c.count i.start;
+    lengths = set c.lengths c.count i.len;
+    count = c.count + 1;
+    size = z;
+  }
 
-  -- which lies within the memory too
-  pub inside-more : every (inside_at (take k starts) (take k lengths) pool) k ≡ true → a + n ≤ length pool
-      → every (inside_at (take (k + 1) (set starts k a)) (take (k + 1) (set lengths k n)) pool) (k + 1) ≡ true
-  inside-more e g =
-      let p = inside_at (take (suc k) (set starts k a)) (take (suc k) (set lengths k n)) pool in
-      let q = inside_at (take k starts) (take k lengths) pool in
+  -- what they describe
+  pub picked_more : picked with_more pool ≡ picked c pool ++ ((x, Plain), within pool i) ∷ []
+  picked_more =
+      let k = c.count in
+      rw (add-one k, grown-length c.tags k x g, length-take-le k c.tags (omega arith))
+      (listed_more (held_at f.Plain (take (suc k) (set c.tags k x)) [] (take (suc k) (set c.starts k i.start))
+      (take (suc k) (set c.lengths k i.len)) pool)
+      (held_at f.Plain (take k c.tags) [] (take k c.starts) (take k c.lengths) pool) k _
+      (λ y b. rw (
+        grown-before c.tags k x g y b,
+        grown-before c.starts k i.start h y b,
+        grown-before c.lengths k i.len j y b,
+      ))
+      (rw (grown-last c.tags k x g, grown-last c.starts k i.start h, grown-last c.lengths k i.len j)))
+
+  -- it lies within the memory too
+  pub inside-more : every (inside_at (take c.count c.starts) (take c.count c.lengths) pool) c.count ≡ true
+      → i.start + i.len ≤ length pool
+      → every (inside_at (take with_more.count with_more.starts) (take with_more.count with_more.lengths) pool)
+      with_more.count ≡ true
+  inside-more e l =
+      let k = c.count in
+      let p = inside_at (take (suc k) (set c.starts k i.start)) (take (suc k) (set c.lengths k i.len)) pool in
+      let q = inside_at (take k c.starts) (take k c.lengths) pool in
       rw (add-one k)
       (both-are (every p k) (p k)
-      (every-is p k (λ y b. rw (grown-before starts k a i y b, grown-before lengths k n j y b) (every-at q k y e b)))
-      (rw (grown-last starts k a i, grown-last lengths k n j) (le-leb (a + n) (length pool) g)))
+      (every-is p k (λ y b. rw (grown-before c.starts k i.start h y b, grown-before c.lengths k i.len j y b)
+      (every-at q k y e b)))
+      (rw (grown-last c.starts k i.start h, grown-last c.lengths k i.len j) (le-leb (i.start + i.len) (length pool) l)))

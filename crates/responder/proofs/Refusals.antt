@@ -4,7 +4,6 @@ use Prim.Native.Nat.{ℕ, ◌<◌}
 use mathlib.Core.Path.{◌≡◌, refl, sym, ap, ◌∙◌}
 use mathlib.Core.Bool.{Bool, true, false, cond}
 use mathlib.Core.List.{List, [], ◌∷◌}
-use native.Mathlib.Omega.{arith}
 use lib.ListN.{length}
 use lib.Dec.{eqb, ltb}
 use borrow.Author.Tests.{eq-eqb, lt-ltb, ltb-true}
@@ -140,7 +139,7 @@ pub record Refused (u : State) (s : List ℕ) (d : Denial) (after : State) : Typ
 
 -- an answer is no denial
 answer-not : {m : Message b.Body} {d : Denial} → accepted m ≡ denied d → ⊥
-answer-not e = let z : ◌≡◌ {A = ℕ} 0 1 = cc in omega arith
+answer-not e = cc
 
 -- one denial has one status
 status-is : {d e : Denial} → denied d ≡ denied e → d.status ≡ e.status
@@ -160,7 +159,7 @@ refused-is u p s area d e = go (ltb area u.limits.message) e
   where
     go : (t : Bool) → (cond t (record { result = silent 300; unit = u }) (sent (handled u p s))).result ≡ replied (denied d)
         → Refused u s d (cond t (record { result = silent 300; unit = u }) (sent (handled u p s))).unit
-    go true q = let z : ◌≡◌ {A = ℕ} 0 1 = cc in absurd (omega arith)
+    go true q = cc
     go false q = said-refused u s (handled u p s) d (handled-said u p s) cc
 
 -- "A refusal changes no tag": a denial leaves the unit as it was
@@ -195,7 +194,7 @@ module _ (u : State) (p : Port) (s : List ℕ) (area : ℕ) where
       go : (t : Bool) → ltb area u.limits.message ≡ t → (cond t (record { result = silent 300; unit = u }) (sent (handled u p s))).result ≡ silent n
           → (n ≡ 300) × (area < u.limits.message) × ((cond t (record { result = silent 300; unit = u }) (sent (handled u p s))).unit ≡ u)
       go true t q = let z : 300 ≡ n = cc in (sym z, ltb-true _ _ t, refl)
-      go false t q = let z : ◌≡◌ {A = ℕ} 0 1 = cc in absurd (omega arith)
+      go false t q = cc
 
   -- the only number that is given to the caller without an answer is 300
   pub silent-300 : (n : ℕ) → (respond u p s area).result ≡ silent n → n ≡ 300

@@ -4,7 +4,6 @@ use Prim.Native.Nat.{ℕ}
 use mathlib.Core.Path.{◌≡◌, refl, sym, ap, ◌∙◌}
 use mathlib.Core.Bool.{Bool, true, false, cond}
 use mathlib.Core.List.{List, [], ◌∷◌}
-use native.Mathlib.Omega.{arith}
 use lib.ListN.{length}
 use lib.Dec.{ltb}
 use Rattle.octets.specs.Frame.{Message}
@@ -204,9 +203,9 @@ still-secret x s t a b u v cs o c w n =
 
 -- one word is told in one way
 pub word-is : (r r' : Sent) → word_of r ≡ word_of r' → r ≡ r'
-word-is (Some n) (Some m) e = let z : n ≡ m = cc in ap Some z
-word-is (Some n) None e = let z : ◌≡◌ {A = ℕ} 0 1 = cc in absurd (omega arith)
-word-is None (Some n) e = let z : ◌≡◌ {A = ℕ} 0 1 = cc in absurd (omega arith)
+word-is (Some n) (Some m) e = cc
+word-is (Some n) None e = cc
+word-is None (Some n) e = cc
 word-is None None e = refl
 
 -- what comes of one sending is fixed by the result

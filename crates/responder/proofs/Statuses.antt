@@ -5,14 +5,15 @@ use mathlib.Core.Path.{◌≡◌, refl}
 use mathlib.Core.Bool.{Bool, true, false, not, ◌&&◌, ◌||◌, cond}
 use mathlib.Core.List.{List, [], ◌∷◌}
 use native.Mathlib.Omega.{arith}
-use lib.ListN.{length, get_or}
+use Rattle.std.proofs.Common.{rules}
+use lib.ListN.{length}
 use lib.Dec.{eqb, ltb}
-use borrow.Author.Tests.{eqb-true, ltb-true}
-use Rattle.octets.specs.Number.{bare, version_part, fill_part}
+use borrow.Author.Tests.{eqb-true, ltb-true, not-true}
+use Rattle.octets.specs.Number.{bare}
 use Rattle.octets.specs.declared.Access.{Access}
 use Rattle.octets.specs.declared.Port.{Port}
 use Rattle.octets.proofs.Places.{both, false-true}
-use Rattle.admission.specs.Admission.{tag_bars, option_bars, port_bars, password_bars, mode_bars, size_bars, room_bars, admission}
+use Rattle.admission.specs.Admission.{admission}
 use Rattle.admission.specs.Want.{Known, Want, Allocate, Free, Read, Write}
 use Rattle.admission.specs.declared.Head.{Head}
 use Rattle.admission.specs.declared.Mode.{Mode}
@@ -22,7 +23,7 @@ use Rattle.store.specs.Model.{State, Tag, Proper, Valid, head_of}
 use Rattle.store.specs.Steps.{registered, known_of, verdict, asked, Content, content, denied, held_by, content_by, write_step, free_step, allocate_step, read_step}
 use Rattle.store.proofs.Told
 use Rattle.store.proofs.Valid.{each-look}
-use Rattle.responder.specs.Respond.{fitted, Line, number, none, first_lines}
+use Rattle.responder.specs.Respond.{Line, number, none, first_lines}
 
 -- 16, 4, 12 and 7 by the lines before the operation; 6, 11, 10, 8, 9 and 5 by admission
 abbrev pub statuses : List ℕ
@@ -66,14 +67,7 @@ Listed (Denied n) = among n statuses ≡ true
 -- of every verdict
 pub admission-listed : (h : Head) (k : Known) (w : Want) (p : Port) (a : Access) → Listed (admission h k w p a)
 unfolding admission
-admission-listed h k w p a =
-    either Listed (tag_bars k w) _ _ refl
-    (either Listed (option_bars h.passwords w) _ _ refl
-    (either Listed (port_bars k p) _ _ refl
-    (either Listed (password_bars k a) _ _ refl
-    (either Listed (mode_bars k w) _ _ refl
-    (either Listed (size_bars h.limits.area k w) _ _ refl
-    (either Listed (room_bars h w) _ _ refl tt))))))
+admission-listed h k w p a = search rules
 
 module _ (u : State) (x : ℕ) (p : Port) (a : Access) where
   -- so of what a unit says to any want
@@ -135,10 +129,6 @@ early-status n e = among-passes (λ x. among x statuses) n early refl e
 -- and 5 is none of them
 pub early-five : (n : ℕ) → among n early ≡ true → eqb n 5 ≡ false
 early-five n e = not-true (eqb n 5) (among-passes (λ x. not (eqb x 5)) n early refl e)
-  where
-    not-true : (b : Bool) → not b ≡ true → b ≡ false
-    not-true true h = absurd (false-true h)
-    not-true false h = refl
 
 -- a line's number is one of them
 abbrev pub ListedLine : Line → Type 0
@@ -148,11 +138,4 @@ ListedLine none = Unit {0}
 -- of every request
 pub lines-listed : (u : State) (s : List ℕ) → ListedLine (first_lines u s)
 unfolding first_lines
-lines-listed u s =
-    either ListedLine (eqb (length s) 0) _ _ refl
-    (either ListedLine (ltb u.limits.message (length s)) _ _ refl
-    (either ListedLine (not (eqb (version_part (get_or s 0 0)) u.version)) _ _ refl
-    (either ListedLine (not (eqb (fill_part (get_or s 0 0)) 0)) _ _ refl
-    (either ListedLine (not (eqb (get_or s 1 0) 1)) _ _ refl
-    (either ListedLine (ltb (length s) 3) _ _ refl
-    (either ListedLine (not (fitted u.allocation u.passwords (get_or s 2 0))) _ _ refl tt))))))
+lines-listed u s = search rules

@@ -5,6 +5,8 @@ use mathlib.Core.Path.{◌≡◌, refl, sym}
 use mathlib.Core.Bool.{Bool, true, false, ◌&&◌, cond}
 use mathlib.Core.List.{List, [], ◌∷◌, ◌++◌}
 use native.Mathlib.Omega.{arith}
+use Rattle.std.proofs.Common.{rules}
+use Rattle.std.proofs.lemmas.Bool.Decides.{nat_tests}
 use native.Mathlib.Nat.{zero-mul, suc-mul}
 use lib.ListN.{length, length-append}
 use lib.Dec.{eqb, leb, ltb}
@@ -19,7 +21,7 @@ use Rattle.octets.specs.declared.Fault.TheVariants.{Other}
 use Rattle.octets.specs.declared.Form.{Form}
 use Rattle.octets.specs.declared.Form.TheVariants as f
 use Rattle.octets.specs.declared.Port.{Port}
-use Rattle.octets.proofs.Places.{both, both-are, false-true, bad-ok}
+use Rattle.octets.proofs.Places.{both, both-are, bad-ok}
 use Rattle.octets.proofs.Lengths.{encode-some}
 use Rattle.tags.specs.Entry.{Keyed, Held, lock, key, memory}
 use Rattle.tags.proofs.Entries.{length-key, length-memory, key_fits, memory-fits}
@@ -37,7 +39,6 @@ use Rattle.answers.proofs.Denials.{denial-fit}
 use Rattle.answers.proofs.Theorems.{answer-written-reads}
 use Rattle.admission.specs.Mode.{mode_code, code_mode, code_spf}
 use Rattle.admission.specs.declared.Mode.{Mode}
-use Rattle.admission.specs.declared.Mode.TheVariants.{Both, ReadOnly, WriteOnly}
 use Rattle.admission.specs.Denial.{Verdict, Allowed, Denied}
 use Rattle.rows.specs.Keyed.{Maybe, nowhere, here}
 use Rattle.rows.proofs.Keys
@@ -73,20 +74,7 @@ formed (b.bulk_write ks) w = true
 -- a body that fits is one of its answer's type
 kind_fits : (x : b.Body) (w : Form) → formed x w ≡ true → body_fits x ≡ true → (answer_body (answer_kind (command_of x) w)).fits x ≡ true
 unfolding answer_body known
-kind_fits (b.resource_information x) f.Plain g h = h
-kind_fits (b.resource_information x) f.Password g h = absurd (false-true g)
-kind_fits (b.allocate k) f.Plain g h = h
-kind_fits (b.allocate k) f.Password g h = h
-kind_fits (b.free k) f.Plain g h = h
-kind_fits (b.free k) f.Password g h = h
-kind_fits (b.read k) f.Plain g h = h
-kind_fits (b.read k) f.Password g h = h
-kind_fits (b.write k) f.Plain g h = h
-kind_fits (b.write k) f.Password g h = h
-kind_fits (b.bulk_read k) f.Plain g h = h
-kind_fits (b.bulk_read k) f.Password g h = h
-kind_fits (b.bulk_write k) f.Plain g h = h
-kind_fits (b.bulk_write k) f.Password g h = h
+kind_fits x w g h = search rules
 
 -- every answer's type writes a body alike
 kind-put : (kind : ℕ) (x : b.Body) → (answer_body kind).put x ≡ body_put x
@@ -317,11 +305,7 @@ resources-writable version x rs v h k =
 
 -- a number that is too great is shown as the greatest
 pub capped-low : (most n : ℕ) → capped most n ≤ most
-capped-low most n = go (ltb most n) refl
-  where
-    go : (t : Bool) → ltb most n ≡ t → cond t most n ≤ most
-    go true e = omega arith
-    go false e = ltb-false _ _ e
+capped-low most n = grind (arith, nat_tests)
 
 -- so what remains fits its fields
 pub room-of-fits : (u : State) → room.fits (room_of u) ≡ true
@@ -336,12 +320,7 @@ room-of-fits u =
 -- every mode has a code of the tables
 pub mode-code : (m : Mode) (t : Bool) → (mode_code m t < 256) × (mode_known (mode_code m t) ≡ true)
 unfolding mode_known
-mode-code Both false = (omega arith, refl)
-mode-code Both true = (omega arith, refl)
-mode-code WriteOnly false = (omega arith, refl)
-mode-code WriteOnly true = (omega arith, refl)
-mode-code ReadOnly false = (omega arith, refl)
-mode-code ReadOnly true = (omega arith, refl)
+mode-code m t = search rules
 
 -- what is told of a tag fits its fields
 pub resource-of-fits : (t : Tag) → tag_id t < 2 ^ 64 → resource.fits (resource_of t) ≡ true
@@ -497,7 +476,7 @@ unfolding respond
 replied-is u p s area a e = go (ltb area u.limits.message) e
   where
     go : (t : Bool) → (cond t (record { result = silent 300; unit = u }) (sent (handled u p s))).result ≡ replied a → (handled u p s).reply ≡ a
-    go true q = let z : ◌≡◌ {A = ℕ} 0 1 = cc in absurd (omega arith)
+    go true q = cc
     go false q = cc
 
 -- every reply may be written

@@ -1,34 +1,29 @@
 // The responder: the unit's answer to the octets of a request, on either port.
-// Rules: document 01, 'Denials and their order' and 'Lists'. The main statement stands at `respond`: reply, answer area and unit are those of the definition `respond`
-// (specs/Respond); the three demands are specs/Demands. On the codec and the store, by their contracts.
+// Rules: document 01, 'Denials and their order' and 'Lists'. The main statement stands at `respond`: reply, answer area
+// and unit are those of the definition `respond` (specs/Respond); the three demands are specs/Demands. On the codec and
+// the store, by their contracts. A denial is handed on by `?` and written in one place, by `respond`.
 #![tactic(auto)]
 
-ghost use Rattle.std.specs.Prelude.{◌≡◌, true, ◌&&◌, List, [], ℕ, ◌+◌, ◌≤◌, ◌<◌, length, take};
-ghost use Rattle.octets.specs.Layout.{every};
+ghost use Rattle.std.specs.Prelude.{◌≡◌, true, List, [], ◌∷◌, ◌++◌, ℕ, ◌+◌, ◌≤◌, ◌<◌, length};
 ghost use Rattle.octets.specs.View.{entries_in};
+ghost use Rattle.octets.specs.Reading.{message};
 ghost use Rattle.tags.specs.Entry.{form_of, key, memory};
-ghost use Rattle.lists.specs.Handed.{keys_of, held_of, inside_at};
-ghost use Rattle.resources.specs.Resource.{resources_of};
 ghost use Rattle.resources.specs.View.{grant_in};
 ghost use Rattle.requests.specs.View.{operation_kind, operation_body, OperationPlace, ListEnds};
+ghost use Rattle.answers.specs.Answer as b;
+ghost use Rattle.admission.specs.Denial.{number, verdict_of};
 ghost use Rattle.store.specs.Model.{State, head_of, Shows, Sound};
-ghost use Rattle.responder.specs.Respond.{denial, allocate_done, free_done, read_done, write_done, capped, size_told, room_of, all_told, resources_done, all_reads, bulk_read_done, noted, all_writes, bulk_write_done, served, fitted, first_lines, respond};
-ghost use Rattle.responder.specs.Entry.{sent_of, line_of, count_of, Tells, Chooses, Sends, Serves, Responded};
-ghost use Rattle.octets.specs.Reading.{message};
+ghost use Rattle.responder.specs.Respond.{denial as denial_of, allocate_done, free_done, read_done, write_done, size_told, room_of, resource_as, all_told, resources_done, all_reads, bulk_read_done, noted, all_writes, bulk_write_done, served, fitted, first_lines, handled, respond};
+ghost use Rattle.responder.specs.Entry.{sent_of, line_of, count_of, resources_in, found_told, names_in, picked, Picked, Chooses, Wrote, Gives, Sends, Serves, Served, Responded};
 
-use admission::{Head, Mode, Verdict};
-use octets::{Access, Entries, Form, Port, Written};
-use requests::{Operation, Request};
-use resources::{Allocation, Room};
-use store::{Found, Held};
-use tags::{Key, Memory};
+use admission::{Denial, Head, Mode};
+use octets::{Access, Entries, Form, Port, Span, Taken, Written};
+use requests::Operation;
+use resources::{Allocation, Resource, Room};
+use store::{Found, Unit};
 
-// The length of the answer; or 300, and there is none.
-#[derive(Clone, Copy)]
-pub enum Sent {
-    Answer(usize),
-    NoRoom,
-}
+// The length of the answer. Where the area is too short (300) there is none.
+pub type Sent = Option<usize>;
 
 #[derive(Clone, Copy)]
 pub struct Reply {
@@ -38,101 +33,69 @@ pub struct Reply {
 
 // ---- replies
 
-// An area of 2,048 octets has room for every reply: the other two cases do not come up.
+// An area of 2,048 octets has room for every reply: that there is none does not come up.
 fn told(written: Written) -> Sent
     ensures { result ≡ sent_of written }
 {
-    match written {
-        Written::Done(n) => Sent::Answer(n),
-        Written::Refused => Sent::NoRoom,
-        Written::NoRoom => Sent::NoRoom,
-    }
+    written.ok()
 }
 
-// Denies by a number; 4 tells the unit's version octet.
-fn deny(answer: &mut [u8], version: u8, number: u8) -> Sent
+// Denies; 4 tells the unit's version octet.
+fn deny(answer: &mut [u8], version: u8, denial: Denial) -> Sent
     requires { (version ≤ 15) × (2048 ≤ length answer.old) }
-    ensures { Sends (denial version number) result answer.old answer.new }
+    ensures { Sends (denial_of version (number denial)) result answer.old answer.new }
 {
     let octet = [version * 16];
-    if number == 4 {
-        return told(answers::write_denial(answer, version, number, &octet));
-    }
-    told(answers::write_denial(answer, version, number, &octet[0..0]))
+    let n = usize::from(denial == Denial::Version);
+    told(answers::write_denial(answer, version, denial.number(), &octet[..n]))
 }
 
 // ---- the lines of the table before the body
 
-fn both(a: bool, b: bool) -> bool
-    ensures { result ≡ (a && b) }
-{
-    if a {
-        return b;
-    }
-    false
-}
-
 // Whether an operation type is in the table and its option is fitted.
+#[tactic(auto, unfolding(crate::specs::Respond::fitted, requests::specs::Command::known))]
 fn is_fitted(allocation: bool, passwords: bool, kind: u8) -> bool
     ensures { result ≡ fitted allocation passwords kind }
 {
     match kind {
-        0 => true,
-        1 => allocation,
-        2 => allocation,
-        3 => true,
-        4 => true,
-        5 => true,
-        6 => true,
-        65 => both(allocation, passwords),
-        66 => both(allocation, passwords),
-        67 => passwords,
-        68 => passwords,
-        69 => passwords,
-        70 => passwords,
+        0 | 3..=6 => true,
+        1 | 2 => allocation,
+        65 | 66 => allocation && passwords,
+        67..=70 => passwords,
         7..=64 | 71..=255 => false,
     }
 }
 
-#[derive(Clone, Copy)]
-enum Line {
-    Denied(u8),
-    Passed,
-}
-
 // 16, 4, 16, 12: from the request's length to its operation type.
-fn first_lines(head: Head, s: &[u8]) -> Line
+#[tactic(auto, unfolding(crate::specs::Respond::first_lines))]
+fn first_lines(head: Head, s: &[u8]) -> Result<(), Denial>
     ensures { (u : State) → head ≡ head_of u → line_of result ≡ first_lines u s.now }
 {
-    if s.len() == 0 {
-        return Line::Denied(16);
-    }
-    if head.limits.message < s.len() {
-        return Line::Denied(16);
+    if s.is_empty() || head.limits.message < s.len() {
+        return Err(Denial::Octets);
     }
     let first = s[0];
     if octets::version_of(first) != head.version {
-        return Line::Denied(4);
+        return Err(Denial::Version);
     }
     if octets::fill_of(first) != 0 {
-        return Line::Denied(16);
+        return Err(Denial::Octets);
     }
-    if s.len() < 2 {
-        return Line::Denied(16);
-    }
-    if s[1] != 1 {
-        return Line::Denied(16);
+    if s.len() < 2 || s[1] != 1 {
+        return Err(Denial::Octets);
     }
     if s.len() < 3 {
-        return Line::Denied(16);
+        return Err(Denial::Octets);
     }
     if !is_fitted(head.allocation, head.passwords, s[2]) {
-        return Line::Denied(12);
+        return Err(Denial::Option);
     }
-    Line::Passed
+    Ok(())
 }
 
 // ---- single commands
+
+// Head, table and memory come apart here and below, as the store takes them and C lends them.
 
 fn serve_allocate(
     head: Head,
@@ -140,42 +103,30 @@ fn serve_allocate(
     port: Port,
     allocation: Allocation,
     answer: &mut [u8],
-) -> Reply
+) -> Result<Reply, Denial>
     requires { (head.version ≤ 15) × (2048 ≤ length answer.old) }
     ensures { (u : State) (pool s : List ℕ) → Shows u head table.old pool
-        → Serves (allocate_done u port (form_of allocation.access) (grant_in s allocation)) result answer.old answer.new table.new pool }
+        → Served (allocate_done u port (form_of allocation.access) (grant_in s allocation)) head result
+        answer.old answer.new table.new pool }
 {
-    let access = allocation.access;
-    let code = allocation.mode as u64;
-    let mode = admission::code_mode(code);
-    let spf = admission::code_spf(code);
-    let outcome = store::allocate(
+    let code = u64::from(allocation.mode);
+    let after = store::allocate(
         head,
         table,
         allocation.tag,
         allocation.size,
-        mode,
-        spf,
+        admission::code_mode(code),
+        admission::code_spf(code),
         port,
-        access,
-    );
-    let after = outcome.head;
-    let verdict = outcome.verdict;
-    match verdict {
-        Verdict::Denied(number) => Reply {
-            head: after,
-            sent: deny(answer, head.version, number),
-        },
-        Verdict::Allowed => {
-            let form = tags::form_of(access);
-            let tag = octets::bare_tag(allocation.tag);
-            let written = answers::write_allocate(answer, head.version, form, tag);
-            Reply {
-                head: after,
-                sent: told(written),
-            }
-        }
-    }
+        allocation.access,
+    )?;
+    let form = tags::form_of(allocation.access);
+    let tag = octets::bare_tag(allocation.tag);
+    let written = answers::write_allocate(answer, head.version, form, tag);
+    Ok(Reply {
+        head: after,
+        sent: told(written),
+    })
 }
 
 fn serve_free(
@@ -186,30 +137,20 @@ fn serve_free(
     access: Access,
     tag: u64,
     answer: &mut [u8],
-) -> Reply
+) -> Result<Reply, Denial>
     requires sound { Sound head table.old pool.old }
     requires room { 2048 ≤ length answer.old }
     ensures { (u : State) → Shows u head table.old pool.old
-        → Serves (free_done u port (form_of access) (tag, access)) result answer.old answer.new table.new pool.new }
+        → Served (free_done u port (form_of access) (tag, access)) head result answer.old answer.new table.new pool.new }
 {
-    let outcome = store::free(head, table, pool, tag, port, access);
-    let after = outcome.head;
-    let verdict = outcome.verdict;
-    match verdict {
-        Verdict::Denied(number) => Reply {
-            head: after,
-            sent: deny(answer, head.version, number),
-        },
-        Verdict::Allowed => {
-            let form = tags::form_of(access);
-            let bare = octets::bare_tag(tag);
-            let written = answers::write_free(answer, head.version, form, bare);
-            Reply {
-                head: after,
-                sent: told(written),
-            }
-        }
-    }
+    let after = store::free(head, table, pool, tag, port, access)?;
+    let form = tags::form_of(access);
+    let bare = octets::bare_tag(tag);
+    let written = answers::write_free(answer, head.version, form, bare);
+    Ok(Reply {
+        head: after,
+        sent: told(written),
+    })
 }
 
 fn serve_write(
@@ -221,21 +162,21 @@ fn serve_write(
     tag: u64,
     src: &[u8],
     answer: &mut [u8],
-) -> Sent
+) -> Result<Reply, Denial>
     requires sound { Sound head table.old pool.old }
     requires room { 2048 ≤ length answer.old }
     ensures { (u : State) → Shows u head table.old pool.old
-        → Serves (write_done u port (form_of access) ((tag, access), src.now)) (record { head = head; sent = result }) answer.old answer.new table.new pool.new }
+        → Served (write_done u port (form_of access) ((tag, access), src.now)) head result
+        answer.old answer.new table.new pool.new }
 {
-    let verdict = store::write(head, table, pool, tag, src, port, access);
-    match verdict {
-        Verdict::Denied(number) => deny(answer, head.version, number),
-        Verdict::Allowed => {
-            let form = tags::form_of(access);
-            let bare = octets::bare_tag(tag);
-            told(answers::write_write(answer, head.version, form, bare))
-        }
-    }
+    store::write(head, table, pool, tag, src, port, access)?;
+    let form = tags::form_of(access);
+    let bare = octets::bare_tag(tag);
+    let written = answers::write_write(answer, head.version, form, bare);
+    Ok(Reply {
+        head,
+        sent: told(written),
+    })
 }
 
 fn serve_read(
@@ -246,60 +187,38 @@ fn serve_read(
     access: Access,
     tag: u64,
     answer: &mut [u8],
-) -> Sent
+) -> Result<Reply, Denial>
     requires sound { Sound head table.now pool.now }
     requires room { 2048 ≤ length answer.old }
     ensures { (u : State) → Shows u head table.now pool.now
-        → Sends (read_done u port (form_of access) (tag, access)).reply result answer.old answer.new }
+        → Served (read_done u port (form_of access) (tag, access)) head result answer.old answer.new table.now pool.now }
 {
-    let held = store::read(head, table, tag, port, access);
-    match held {
-        Held::Denied(number) => deny(answer, head.version, number),
-        Held::Data(span) => {
-            let form = tags::form_of(access);
-            let bare = octets::bare_tag(tag);
-            let start = span.start;
-            let end = start + span.len;
-            let src = &pool[start..end];
-            told(answers::write_read(answer, head.version, form, bare, src))
-        }
-    }
+    let Span { start, len } = store::read(head, table, tag, port, access)?;
+    let form = tags::form_of(access);
+    let bare = octets::bare_tag(tag);
+    let src = &pool[start..start + len];
+    let written = answers::write_read(answer, head.version, form, bare, src);
+    Ok(Reply {
+        head,
+        sent: told(written),
+    })
 }
 
 // ---- resource information
-
-// A number in a field of four octets, or of two: one too great is shown as the field's largest.
-fn capped_four(n: usize) -> u32
-    ensures { result ≡ capped 4294967295 n }
-{
-    if 4294967295 < n {
-        return 4294967295;
-    }
-    n as u32
-}
-
-fn capped_two(n: usize) -> u16
-    ensures { result ≡ capped 65535 n }
-{
-    if 65535 < n {
-        return 65535;
-    }
-    n as u16
-}
 
 fn room_of(head: Head) -> Room
     ensures { (u : State) → head ≡ head_of u → result ≡ room_of u }
 {
     let left = store::remainder(head);
-    let tags = capped_two(left.tags);
-    let octets = capped_four(left.octets);
+    let tags = u16::try_from(left.tags).unwrap_or(u16::MAX);
+    let octets = u32::try_from(left.octets).unwrap_or(u32::MAX);
     Room {
-        largest: capped_four(head.limits.message),
+        largest: u32::try_from(head.limits.message).unwrap_or(u32::MAX),
         tags,
         octets,
         volatile_tags: tags,
         volatile_octets: octets,
-        entries: capped_two(head.limits.list),
+        entries: u16::try_from(head.limits.list).unwrap_or(u16::MAX),
     }
 }
 
@@ -308,71 +227,101 @@ fn size_told(mode: Mode, held: usize) -> usize
     ensures { result ≡ size_told mode held }
 {
     match mode {
-        Mode::Both => held,
-        Mode::ReadOnly => held,
+        Mode::Both | Mode::ReadOnly => held,
         Mode::WriteOnly => 0,
     }
 }
 
-// One entry more of what is told, if the tag is registered.
-fn tell(
-    found: Found,
-    k: usize,
-    tags: &mut [u64],
-    modes: &mut [u8],
-    held: &mut [u32],
-    sizes: &mut [u32],
-) -> usize
-    requires { (k < length tags.old) × (k < length modes.old) × (k < length held.old) × (k < length sizes.old) }
-    ensures { Tells found k tags.old modes.old held.old sizes.old result tags.new modes.new held.new sizes.new }
+// What is told of a tag. A number too great for its field is shown as the field's largest.
+fn resource_as(found: Found) -> Resource
+    ensures { result ≡ resource_as found.about found.held }
 {
-    match found {
-        Found::Nothing => k,
-        Found::Tag { about, held: n } => {
-            let mode = about.mode;
-            tags[k] = about.tag;
-            modes[k] = admission::mode_code(mode, about.spf) as u8;
-            held[k] = capped_four(size_told(mode, n));
-            sizes[k] = capped_four(about.size);
-            k + 1
-        }
+    let Found { about, held } = found;
+    Resource {
+        tag: about.tag,
+        mode: admission::mode_code(about.mode, about.spf) as u8,
+        held: u32::try_from(size_told(about.mode, held)).unwrap_or(u32::MAX),
+        size: u32::try_from(about.size).unwrap_or(u32::MAX),
     }
 }
 
-// Tells of each tag of a list that is registered. How many.
-fn tell_each(
-    head: Head,
-    table: &[u64],
-    s: &[u8],
-    list: Entries,
-    tags: &mut [u64],
-    modes: &mut [u8],
-    held: &mut [u32],
-    sizes: &mut [u32],
-) -> usize
-    requires room { (list.count ≤ length tags.old) × (list.count ≤ length modes.old) × (list.count ≤ length held.old) × (list.count ≤ length sizes.old) }
+// What is told of tags: the first `count` elements of each array. The writer takes slices side by side.
+#[derive(Clone, Copy)]
+struct Information {
+    tags: [u64; 16],
+    modes: [u8; 16],
+    held: [u32; 16],
+    sizes: [u32; 16],
+    count: usize,
+}
+
+impl Information {
+    fn new() -> Information
+        ensures { (result.count ≡ 0) × (resources_in result ≡ []) }
+    {
+        Information {
+            tags: [0; 16],
+            modes: [0; 16],
+            held: [0; 16],
+            sizes: [0; 16],
+            count: 0,
+        }
+    }
+
+    // One entry more, if the tag is registered.
+    fn tell(&mut self, found: Option<Found>)
+        requires { self.old.count < 16 }
+        ensures few { self.new.count ≤ self.old.count + 1 }
+        ensures told { resources_in self.new ≡ found_told found (resources_in self.old) }
+    {
+        let Some(found) = found else {
+            return;
+        };
+        let resource = resource_as(found);
+        let k = self.count;
+        self.tags[k] = resource.tag;
+        self.modes[k] = resource.mode;
+        self.held[k] = resource.held;
+        self.sizes[k] = resource.size;
+        self.count = k + 1;
+    }
+
+    fn write(&self, answer: &mut [u8], version: u8, room: Room) -> Written
+        requires { self.now.count ≤ 16 }
+        ensures { Gives version Form.Plain (b.resource_information (room, resources_in self.now)) result
+            answer.old answer.new }
+    {
+        let k = self.count;
+        answers::write_resources(
+            answer,
+            version,
+            room,
+            &self.tags[..k],
+            &self.modes[..k],
+            &self.held[..k],
+            &self.sizes[..k],
+        )
+    }
+}
+
+// Tells of each tag of a list that is registered.
+// In this loop and the two like it the list is known to read to its end: no entry is missing.
+fn tell_each(head: Head, table: &[u64], s: &[u8], list: Entries, information: &mut Information)
+    requires room { information.old.count + list.count ≤ 16 }
     requires list_ends { ListEnds (key Form.Plain) s.now list }
-    ensures { (result ≤ list.count) × ((u : State) (pool : List ℕ) → Shows u head table.now pool
-        → resources_of (take result tags.new) (take result modes.new) (take result held.new) (take result sizes.new) ≡ all_told u [] (entries_in (key Form.Plain) s.now list)) }
+    ensures few { information.new.count ≤ information.old.count + list.count }
+    ensures told { (u : State) (pool : List ℕ) → Shows u head table.now pool
+        → resources_in information.new
+        ≡ all_told u (resources_in information.old) (entries_in (key Form.Plain) s.now list) }
 {
     let mut at = list.start;
-    let mut i: usize = 0;
-    let mut k: usize = 0;
-    while i < list.count {
-        let Key::Value {
-            access: _,
-            tag,
-            next,
-        } = tags::read_key(s, at, Form::Plain)
-        else {
-            return k;
+    for _ in 0..list.count {
+        let Ok(Taken { value: key, next }) = tags::read_key(s, at, Form::Plain) else {
+            return;
         };
-        let found = store::find(head, table, tag);
-        k = tell(found, k, tags, modes, held, sizes);
+        information.tell(store::find(head, table, key.tag));
         at = next;
-        i += 1;
     }
-    k
 }
 
 fn serve_resources(head: Head, table: &[u64], s: &[u8], list: Entries, answer: &mut [u8]) -> Sent
@@ -381,67 +330,81 @@ fn serve_resources(head: Head, table: &[u64], s: &[u8], list: Entries, answer: &
     ensures { (u : State) (pool : List ℕ) → Shows u head table.now pool
         → Sends (resources_done u (entries_in (key Form.Plain) s.now list)).reply result answer.old answer.new }
 {
-    let mut tags = [0u64; 16];
-    let mut modes = [0u8; 16];
-    let mut held = [0u32; 16];
-    let mut sizes = [0u32; 16];
-    let k = tell_each(
-        head, table, s, list, &mut tags, &mut modes, &mut held, &mut sizes,
-    );
-    let room = room_of(head);
-    told(answers::write_resources(
-        answer,
-        head.version,
-        room,
-        &tags[0..k],
-        &modes[0..k],
-        &held[0..k],
-        &sizes[0..k],
-    ))
+    let mut information = Information::new();
+    tell_each(head, table, s, list, &mut information);
+    told(information.write(answer, head.version, room_of(head)))
 }
 
 // ---- bulk read
 
-// Entries chosen so far, and the octets that they take.
+// The entries chosen so far, the first `count` elements of each array: tags, and where their data stands in the memory.
+// Together they take `size` octets. The writer takes slices side by side.
 #[derive(Clone, Copy)]
 struct Chosen {
+    tags: [u64; 16],
+    starts: [usize; 16],
+    lengths: [usize; 16],
     count: usize,
     size: usize,
 }
 
-// One entry more, if a single command would give its data and the body has room for it.
-fn choose(
-    held: Held,
-    tag: u64,
-    chosen: Chosen,
-    tags: &mut [u64],
-    starts: &mut [usize],
-    lengths: &mut [usize],
-) -> Chosen
-    requires { (chosen.count < length tags.old) × (chosen.count < length starts.old) × (chosen.count < length lengths.old) × (chosen.count < 127) × (chosen.size ≤ 2041) }
-    ensures { Chooses held tag chosen tags.old starts.old lengths.old result tags.new starts.new lengths.new }
-{
-    match held {
-        Held::Denied(_) => chosen,
-        Held::Data(span) => {
-            // Before it is added up.
-            if 2041 < span.len {
-                return chosen;
-            }
-            let size = chosen.size + 8 + octets::length_size(span.len) + span.len;
-            if 2041 < size {
-                return chosen;
-            }
-            let k = chosen.count;
-            tags[k] = octets::bare_tag(tag);
-            starts[k] = span.start;
-            lengths[k] = span.len;
-            Chosen { count: k + 1, size }
+impl Chosen {
+    fn new() -> Chosen
+        ensures none { (result.count ≡ 0) × (result.size ≡ 0) }
+        ensures picked { (pool : List ℕ) → Picked result pool × (picked result pool ≡ []) }
+    {
+        Chosen {
+            tags: [0; 16],
+            starts: [0; 16],
+            lengths: [0; 16],
+            count: 0,
+            size: 0,
         }
+    }
+
+    // One entry more, if a single command would give its data and the body has room for it.
+    fn choose(&mut self, tag: u64, held: Result<Span, Denial>)
+        requires { (self.old.count < 16) × (self.old.size ≤ 2041) }
+        ensures { Chooses held tag self.old self.new }
+    {
+        let Ok(Span { start, len }) = held else {
+            return;
+        };
+        // Before it is added up.
+        if 2041 < len {
+            return;
+        }
+        let size = self.size + 8 + octets::length_size(len) + len;
+        if 2041 < size {
+            return;
+        }
+        let k = self.count;
+        self.tags[k] = octets::bare_tag(tag);
+        self.starts[k] = start;
+        self.lengths[k] = len;
+        self.count = k + 1;
+        self.size = size;
+    }
+
+    fn write(&self, answer: &mut [u8], version: u8, form: Form, pool: &[u8]) -> Written
+        requires { self.now.count ≤ 16 }
+        ensures { Picked self.now pool.now → Gives version form (b.bulk_read (picked self.now pool.now)) result
+            answer.old answer.new }
+    {
+        let k = self.count;
+        answers::write_bulk_read(
+            answer,
+            version,
+            form,
+            &self.tags[..k],
+            &self.starts[..k],
+            &self.lengths[..k],
+            pool,
+        )
     }
 }
 
-// Chooses from the entries of a list in turn. How many, with their tags and the places of their data.
+// Chooses from the entries of a list in turn.
 fn choose_each(
     head: Head,
     table: &[u64],
@@ -449,29 +412,24 @@ fn choose_each(
     form: Form,
     s: &[u8],
     list: Entries,
-    tags: &mut [u64],
-    starts: &mut [usize],
-    lengths: &mut [usize],
-) -> usize
-    requires room { (list.count ≤ 16) × (list.count ≤ length tags.old) × (list.count ≤ length starts.old) × (list.count ≤ length lengths.old) }
+    chosen: &mut Chosen,
+)
+    requires room { (chosen.old.count + list.count ≤ 16) × (chosen.old.size ≤ 2041) }
     requires list_ends { ListEnds (key form) s.now list }
-    ensures { (result ≤ list.count) × ((u : State) (pool : List ℕ) → Shows u head table.now pool
-        → (every (inside_at (take result starts.new) (take result lengths.new) pool) result ≡ true)
-        × (held_of Form.Plain (take result tags.new) [] (take result starts.new) (take result lengths.new) pool ≡ all_reads u port [] (entries_in (key form) s.now list))) }
+    ensures few { chosen.new.count ≤ chosen.old.count + list.count }
+    ensures chosen { (u : State) (pool : List ℕ) → Shows u head table.now pool → Picked chosen.old pool
+        → Picked chosen.new pool × (picked chosen.new pool
+        ≡ all_reads u port (picked chosen.old pool) (entries_in (key form) s.now list)) }
 {
     let mut at = list.start;
-    let mut i: usize = 0;
-    let mut chosen = Chosen { count: 0, size: 0 };
-    while i < list.count {
-        let Key::Value { access, tag, next } = tags::read_key(s, at, form) else {
-            return chosen.count;
+    for _ in 0..list.count {
+        let Ok(Taken { value: key, next }) = tags::read_key(s, at, form) else {
+            return;
         };
-        let held = store::read(head, table, tag, port, access);
-        chosen = choose(held, tag, chosen, tags, starts, lengths);
+        let held = store::read(head, table, key.tag, port, key.access);
+        chosen.choose(key.tag, held);
         at = next;
-        i += 1;
     }
-    chosen.count
 }
 
 fn bulk_read(
@@ -490,48 +448,53 @@ fn bulk_read(
     ensures { (u : State) → Shows u head table.now pool.now
         → Sends (bulk_read_done u port form (entries_in (key form) s.now list)).reply result answer.old answer.new }
 {
-    let mut tags = [0u64; 16];
-    let mut starts = [0usize; 16];
-    let mut lengths = [0usize; 16];
-    let k = choose_each(
-        head,
-        table,
-        port,
-        form,
-        s,
-        list,
-        &mut tags,
-        &mut starts,
-        &mut lengths,
-    );
-    told(answers::write_bulk_read(
-        answer,
-        head.version,
-        form,
-        &tags[0..k],
-        &starts[0..k],
-        &lengths[0..k],
-        pool,
-    ))
+    let mut chosen = Chosen::new();
+    choose_each(head, table, port, form, s, list, &mut chosen);
+    told(chosen.write(answer, head.version, form, pool))
 }
 
 // ---- bulk write
 
-// One name more, if the entry was written.
-fn note(verdict: Verdict, tag: u64, k: usize, names: &mut [u64]) -> usize
-    requires { k < length names.old }
-    ensures { (result ≤ k + 1) × (keys_of Form.Plain (take result names.new) [] ≡ noted verdict tag (keys_of Form.Plain (take k names.old) [])) }
-{
-    match verdict {
-        Verdict::Denied(_) => k,
-        Verdict::Allowed => {
-            names[k] = octets::bare_tag(tag);
-            k + 1
+// The names of the tags written so far: the first `count`.
+#[derive(Clone, Copy)]
+struct Names {
+    tags: [u64; 16],
+    count: usize,
+}
+
+impl Names {
+    fn new() -> Names
+        ensures { (result.count ≡ 0) × (names_in result ≡ []) }
+    {
+        Names {
+            tags: [0; 16],
+            count: 0,
         }
+    }
+
+    // One name more, if the entry was written.
+    fn note(&mut self, tag: u64, written: Result<(), Denial>)
+        requires { self.old.count < 16 }
+        ensures few { self.new.count ≤ self.old.count + 1 }
+        ensures noted { names_in self.new ≡ noted (verdict_of written) tag (names_in self.old) }
+    {
+        let Ok(()) = written else {
+            return;
+        };
+        self.tags[self.count] = octets::bare_tag(tag);
+        self.count += 1;
+    }
+
+    fn write(&self, answer: &mut [u8], version: u8, form: Form) -> Written
+        requires { self.now.count ≤ 16 }
+        ensures { Gives version form (b.bulk_write (names_in self.now)) result answer.old answer.new }
+    {
+        answers::write_bulk_write(answer, version, form, &self.tags[..self.count])
     }
 }
 
-// Writes the entries of a list in turn; one that a single command would deny is passed over. The names of those written, and how many.
+// Writes the entries of a list in turn and notes the names of those written.
+// One that a single command would deny is passed over.
 fn write_each(
     head: Head,
     table: &mut [u64],
@@ -540,35 +503,26 @@ fn write_each(
     form: Form,
     s: &[u8],
     list: Entries,
-    names: &mut [u64],
-) -> usize
+    names: &mut Names,
+)
     requires sound { Sound head table.old pool.old }
-    requires room { list.count ≤ length names.old }
+    requires room { names.old.count + list.count ≤ 16 }
     requires list_ends { ListEnds (memory form) s.now list }
-    ensures { (result ≤ list.count) × ((u : State) → Shows u head table.old pool.old
-        → (keys_of Form.Plain (take result names.new) [] ≡ (all_writes port (record { names = []; unit = u }) (entries_in (memory form) s.now list)).names)
-        × Shows (all_writes port (record { names = []; unit = u }) (entries_in (memory form) s.now list)).unit head table.new pool.new) }
+    ensures few { names.new.count ≤ names.old.count + list.count }
+    ensures written { (u : State) → Shows u head table.old pool.old
+        → Wrote (all_writes port (record { names = names_in names.old; unit = u }) (entries_in (memory form) s.now list))
+        (names_in names.new) head table.new pool.new }
 {
     let mut at = list.start;
-    let mut i: usize = 0;
-    let mut k: usize = 0;
-    while i < list.count {
-        let Memory::Value {
-            access,
-            tag,
-            span,
-            next,
-        } = tags::read_memory(s, at, form)
-        else {
-            return k;
+    for _ in 0..list.count {
+        let Ok(Taken { value: held, next }) = tags::read_memory(s, at, form) else {
+            return;
         };
-        let src = octets::part(s, span.start, span.len);
-        let verdict = store::write(head, table, pool, tag, src, port, access);
-        k = note(verdict, tag, k, names);
+        let src = octets::part(s, held.span.start, held.span.len);
+        let written = store::write(head, table, pool, held.tag, src, port, held.access);
+        names.note(held.tag, written);
         at = next;
-        i += 1;
     }
-    k
 }
 
 fn bulk_write(
@@ -587,24 +541,24 @@ fn bulk_write(
     ensures { (u : State) → Shows u head table.old pool.old
         → Serves (bulk_write_done u port form (entries_in (memory form) s.now list)) (record { head = head; sent = result }) answer.old answer.new table.new pool.new }
 {
-    let mut names = [0u64; 16];
-    let k = write_each(head, table, pool, port, form, s, list, &mut names);
-    told(answers::write_bulk_write(answer, head.version, form, &names[0..k]))
+    let mut names = Names::new();
+    write_each(head, table, pool, port, form, s, list, &mut names);
+    told(names.write(answer, head.version, form))
 }
 
 // ---- the entry
 
+// How many entries an operation's list has.
 fn entry_count(operation: Operation) -> usize
     ensures { result ≡ count_of operation }
 {
     match operation {
-        Operation::Resources(list) => list.count,
-        Operation::Allocate(_) => 0,
-        Operation::Free(_, _) => 0,
-        Operation::Read(_, _) => 0,
-        Operation::Write(_, _, _) => 0,
-        Operation::BulkRead(_, list) => list.count,
-        Operation::BulkWrite(_, list) => list.count,
+        Operation::Resources(list) | Operation::BulkRead(_, list) | Operation::BulkWrite(_, list) =>
+            list.count,
+        Operation::Allocate(_)
+        | Operation::Free(_, _)
+        | Operation::Read(_, _)
+        | Operation::Write(_, _, _) => 0,
     }
 }
 
@@ -617,46 +571,62 @@ fn perform(
     operation: Operation,
     s: &[u8],
     answer: &mut [u8],
-) -> Reply
+) -> Result<Reply, Denial>
     requires sound { Sound head table.old pool.old }
     requires room { 2048 ≤ length answer.old }
     requires operation_place { OperationPlace s.now operation }
     ensures { (u : State) (version : ℕ) → Shows u head table.old pool.old
-        → Serves (served u port (message (record { version = version; kind = operation_kind operation; body = operation_body s.now operation }))) result answer.old answer.new table.new pool.new }
+        → Served (served u port (message (record {
+          version = version;
+          kind = operation_kind operation;
+          body = operation_body s.now operation;
+        }))) head result answer.old answer.new table.new pool.new }
 {
     if head.limits.list < entry_count(operation) {
-        return Reply {
-            head,
-            sent: deny(answer, head.version, 7),
-        };
+        return Err(Denial::List);
     }
     match operation {
-        Operation::Resources(list) => Reply {
+        Operation::Resources(list) => Ok(Reply {
             head,
             sent: serve_resources(head, table, s, list, answer),
-        },
+        }),
         Operation::Allocate(allocation) => serve_allocate(head, table, port, allocation, answer),
         Operation::Free(access, tag) => serve_free(head, table, pool, port, access, tag, answer),
-        Operation::Read(access, tag) => Reply {
-            head,
-            sent: serve_read(head, table, pool, port, access, tag, answer),
-        },
+        Operation::Read(access, tag) => serve_read(head, table, pool, port, access, tag, answer),
         Operation::Write(access, tag, span) => {
             let src = octets::part(s, span.start, span.len);
-            Reply {
-                head,
-                sent: serve_write(head, table, pool, port, access, tag, src, answer),
-            }
+            serve_write(head, table, pool, port, access, tag, src, answer)
         }
-        Operation::BulkRead(form, list) => Reply {
+        Operation::BulkRead(form, list) => Ok(Reply {
             head,
             sent: bulk_read(head, table, pool, port, form, s, list, answer),
-        },
-        Operation::BulkWrite(form, list) => Reply {
+        }),
+        Operation::BulkWrite(form, list) => Ok(Reply {
             head,
             sent: bulk_write(head, table, pool, port, form, s, list, answer),
-        },
+        }),
     }
+}
+
+// Every line but that of 300, in the order of the table.
+fn answered(
+    head: Head,
+    table: &mut [u64],
+    pool: &mut [u8],
+    port: Port,
+    request: &[u8],
+    answer: &mut [u8],
+) -> Result<Reply, Denial>
+    requires sound { Sound head table.old pool.old }
+    requires room { 2048 ≤ length answer.old }
+    ensures { (u : State) → Shows u head table.old pool.old
+        → Served (handled u port request.now) head result answer.old answer.new table.new pool.new }
+{
+    first_lines(head, request)?;
+    let Ok(asked) = requests::read_request(request) else {
+        return Err(Denial::Octets);
+    };
+    perform(head, table, pool, port, asked.operation, request, answer)
 }
 
 // The unit's answer to a request that came by a port, written into the answer area.
@@ -673,25 +643,13 @@ pub fn respond(
         → Responded (respond u port request.now (length answer.old)) result answer.old answer.new table.new pool.new }
 {
     if answer.len() < head.limits.message {
-        return Reply {
-            head,
-            sent: Sent::NoRoom,
-        };
+        return Reply { head, sent: None };
     }
-    match first_lines(head, request) {
-        Line::Denied(number) => Reply {
+    match answered(head, table, pool, port, request, answer) {
+        Ok(reply) => reply,
+        Err(denial) => Reply {
             head,
-            sent: deny(answer, head.version, number),
-        },
-        Line::Passed => match requests::read_request(request) {
-            Request::Bad(_) => Reply {
-                head,
-                sent: deny(answer, head.version, 16),
-            },
-            Request::Message {
-                version: _,
-                operation,
-            } => perform(head, table, pool, port, operation, request, answer),
+            sent: deny(answer, head.version, denial),
         },
     }
 }

@@ -75,7 +75,10 @@ unfolding part
 close-all d x at n m j e end ex em ee ej h = close-sets d x at n m j e end ex em ee ej h
 
 -- a part that was copied within the list is written from a place on
-pub pasted : (d s : List ℕ) (at n m : ℕ) → n ≡ m → n ≤ length s → at + n ≤ length d → paste d at s n ≡ sets d at (take m s)
+pub pasted : (d s : List ℕ) (at n m : ℕ) → n ≡ m → n ≤ length s → at + n ≤ length d
+    → paste d at s n ≡ sets d at (take m s)
 pasted d s at n m e h l =
     let k = length-take-le n s h in
-    ap (λ (j : ℕ). take at d ++ take n s ++ drop (at + j) d) (sym k) ∙ sym (sets-eq (take n s) d at (omega (arith, k))) ∙ ap (λ (j : ℕ). sets d at (take j s)) e
+    ap (λ (j : ℕ). take at d ++ take n s ++ drop (at + j) d) (sym k)
+    ∙ sym (sets-eq (take n s) d at (omega (arith, k)))
+    ∙ ap (λ (j : ℕ). sets d at (take j s)) e

@@ -1,6 +1,7 @@
 // The unit's table: a row of eight words for each registered tag, in one slice that the unit's owner lends. A row says what is fixed of the tag, where its area
 // starts in the memory, and how many octets are held there. Only get_slot and put_slot know all of a row's words; put_held, find_row and remove_row each
 // look at one, the held length, the tag, and where the area starts. What a row is stands in specs/Row; no public function asks anything of its caller.
+// A row is words and no struct: the C interface lends the table as plain numbers.
 #![tactic(auto)]
 
 ghost use Rattle.std.specs.Prelude.{◌≡◌, ◌+◌, ◌-◌, ◌*◌, ◌≤◌, length, take, drop};
@@ -43,6 +44,8 @@ impl Slot {
 }
 
 // ---- slots and words
+
+// By functions and no `From`: two words of a row are one access.
 
 fn lock_of(locked: u64, password: u64) -> Access
     ensures { result ≡ lock_of locked password }

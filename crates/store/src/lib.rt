@@ -2,6 +2,7 @@
 // Rules: document 01, 'Sizes', 'Tags', the per-operation rules of 'Denials and their order', and 'Lists' for the remaining numbers. A unit is a head by value, a table
 // and a memory that its owner lends; what they stand for is `State` (specs/Model), and what each operation answers and does to it stands in specs/Steps.
 // An operation asks nothing of its caller but that head, table and memory are what a start and the operations gave.
+// The three stay apart, in no struct: the C interface lends table and memory each as a slice of its own.
 #![tactic(auto)]
 
 ghost use Rattle.std.specs.Prelude.{◌≡◌, List, ℕ, ◌+◌, ◌-◌, ◌*◌, ◌≤◌, ◌<◌, length, replicate};
@@ -143,7 +144,7 @@ pub fn read(head: Head, table: &[u64], tag: u64, port: Port, access: Access) -> 
 
 // ---- write
 
-// Zeros from `from` up to `to`. By `fill`, which stores the last octet apart, a free of 256 octets takes a tenth longer.
+// Zeros from `from` up to `to`. By `fill`, which stores the last octet apart, a free of 256 octets took a tenth longer.
 fn clear(pool: &mut [u8], from: usize, to: usize)
     requires { to ≤ length pool.old }
     ensures { pool.new ≡ sets pool.old from (replicate (to - from) 0) }
@@ -194,6 +195,7 @@ fn close(pool: &mut [u8], at: usize, n: usize, end: usize)
     ensures { pool.new ≡ closed pool.old at n end }
 {
     let last = end - n;
+    // A loop and no copy_within: that would tell what the octets become, but not that each moves once.
     for i in at..last {
         pool[i] = pool[i + n];
     }
@@ -290,7 +292,8 @@ pub fn allocate(
     access: Access,
 ) -> Result<Head, Denial>
     ensures { (u : State) (pool : List ℕ) → Shows u head table.old pool
-        → Did (allocate_step u tag size mode spf port access) (verdict_of result) (head_after head result) table.new pool }
+        → Did (allocate_step u tag size mode spf port access) (verdict_of result) (head_after head result)
+        table.new pool }
 {
     let new = asked(tag, size, mode, spf, access);
     admission::admit_allocate(head, is_registered(head, table, tag), new)?;
@@ -310,7 +313,8 @@ pub fn fit(
     src: &[u8],
 ) -> Result<Head, Denial>
     ensures { (u : State) → Shows u head table.old pool.old
-        → Did (fit_step u tag size mode spf lock src.now) (verdict_of result) (head_after head result) table.new pool.new }
+        → Did (fit_step u tag size mode spf lock src.now) (verdict_of result) (head_after head result)
+        table.new pool.new }
 {
     let new = asked(tag, size, mode, spf, lock);
     admission::admit_fit(head, is_registered(head, table, tag), new, src.len())?;

@@ -52,7 +52,7 @@ pub fn lock_size(form: Form) -> usize
     }
 }
 
-// The form that an access is of; a password fits its field.
+// The form that an access is of; a password fits its field, which a `From` would not say.
 pub fn form_of(access: Access) -> Form
     ensures { (result ≡ form_of access) × ((lock result).fits access ≡ true) }
 {
@@ -87,12 +87,16 @@ pub fn read_key(s: &[u8], at: usize, form: Form) -> Reading<Key>
 }
 
 // Writes a tag, and its password if there is one, if the area has room for both.
-// Here and in put_memory each field's place is computed, not what the writer before it returns: so the compiler sees that no later test of room can fail.
+// Here and in put_memory each field's place is computed, not what the writer before it returns, which hangs on a test of room.
+// The writers take a tag and its access apart, not as a Key: so the C interface hands them over.
 pub fn put_key(out: &mut [u8], at: usize, access: Access, tag: u64) -> usize
     ensures { Laid out.old at ((key (form_of access)).put (tag, access)) out.new result }
 {
     let size = 8 + lock_size(form_of(access));
-    if octets::left_at(out, at) < size {
+    if out.len() < at {
+        return at;
+    }
+    if out.len() - at < size {
         return at;
     }
     octets::write_number(out, at, Width::Eight, tag);
@@ -147,7 +151,10 @@ pub fn put_memory(out: &mut [u8], at: usize, access: Access, tag: u64, src: &[u8
         return at;
     }
     let size = 8 + lock_size(form_of(access)) + octets::length_size(n) + n;
-    if octets::left_at(out, at) < size {
+    if out.len() < at {
+        return at;
+    }
+    if out.len() - at < size {
         return at;
     }
     let named = at + 8 + lock_size(form_of(access));

@@ -9,7 +9,7 @@ ghost use Rattle.std.specs.Prelude.{◌≡◌};
 ghost use Rattle.octets.specs.Area.{outcome};
 ghost use Rattle.worked.specs.Result.{number_of};
 
-use octets::{Access, Form, Written};
+use octets::{Access, Form, Unwritten, Written};
 use shown::{hexadecimal, number, text};
 use std::io;
 
@@ -27,38 +27,41 @@ fn result(written: Written) -> usize
     ensures { result ≡ number_of (outcome written) }
 {
     match written {
-        Written::Done(n) => n,
-        Written::Refused => 16,
-        Written::NoRoom => 300,
+        Ok(n) => n,
+        Err(Unwritten::Refused) => 16,
+        Err(Unwritten::NoRoom) => 300,
     }
 }
 
 // ---- messages, written and read back
 
-// A message; of a long one its first 20 octets and its length.
-fn message(rt: &impl Print, name: &str, s: &[u8]) -> io::Result<()> {
+// Shows the message that was written, of a long one its first 20 octets and its length; and tells its octets.
+fn message<'a>(
+    rt: &impl Print,
+    name: &str,
+    written: Written,
+    area: &'a [u8],
+) -> io::Result<&'a [u8]> {
+    let s = octets::part(area, 0, result(written));
     text(rt, name)?;
     text(rt, " ")?;
     if s.len() <= 64 {
         hexadecimal(rt, s)?;
     } else {
-        hexadecimal(rt, octets::part(s, 0, 20))?;
+        hexadecimal(rt, &s[..20])?;
         number(rt, s.len())?;
     }
-    text(rt, "\n ")
+    text(rt, "\n ")?;
+    Ok(s)
 }
 
 // Shows the request that was written, and what it reads back as.
 fn request(rt: &impl Print, name: &str, written: Written, area: &[u8]) -> io::Result<()> {
-    let s = octets::part(area, 0, result(written));
-    message(rt, name, s)?;
-    shown::request(rt, s)
+    shown::request(rt, message(rt, name, written, area)?)
 }
 
 fn answer(rt: &impl Print, name: &str, written: Written, area: &[u8]) -> io::Result<()> {
-    let s = octets::part(area, 0, result(written));
-    message(rt, name, s)?;
-    shown::answer(rt, s)
+    shown::answer(rt, message(rt, name, written, area)?)
 }
 
 // Of one tag, plain or with its password.
@@ -94,9 +97,9 @@ fn long_requests(rt: &impl Print, area: &mut [u8; 2048]) -> io::Result<()> {
     let plain = Access::Plain;
     let data = [0xaa; 200];
     let tags = [K; 255];
-    let written = requests::write_write(area, 1, plain, K, octets::part(&data, 0, 118));
+    let written = requests::write_write(area, 1, plain, K, &data[..118]);
     request(rt, "write-118", written, area)?;
-    let written = requests::write_write(area, 1, plain, K, octets::part(&data, 0, 119));
+    let written = requests::write_write(area, 1, plain, K, &data[..119]);
     request(rt, "write-119", written, area)?;
     let written = requests::write_write(area, 1, plain, K, &data);
     request(rt, "write-200", written, area)?;
@@ -153,9 +156,8 @@ fn refusal(rt: &impl Print, name: &str, written: Written) -> io::Result<()> {
 
 // Whether octets are still as they were.
 fn kept(rt: &impl Print, name: &str, s: &[u8]) -> io::Result<()> {
-    let old = [OLD; 2048];
     text(rt, name)?;
-    if s == octets::part(&old, 0, s.len()) {
+    if s.iter().all(|octet| *octet == OLD) {
         text(rt, ": kept\n")
     } else {
         text(rt, ": changed\n")
@@ -172,7 +174,7 @@ fn refused_values(rt: &impl Print, area: &mut [u8; 2048]) -> io::Result<()> {
     refusal(rt, "mode 03", written)?;
     let written = requests::write_allocate(area, 1, plain, K, 8, 1, &[]);
     refusal(rt, "mode 08", written)?;
-    let written = answers::write_denial(area, 1, 16, octets::part(&long, 0, 128));
+    let written = answers::write_denial(area, 1, 16, &long[..128]);
     refusal(rt, "supplement of 128 octets", written)?;
     let written = requests::write_write(area, 1, plain, K, &long);
     refusal(rt, "write of 2033 octets", written)?;
@@ -193,9 +195,9 @@ fn refused_slices(rt: &impl Print, area: &mut [u8; 2048]) -> io::Result<()> {
     let written = requests::write_read(&mut short, 16, plain, K);
     refusal(rt, "version 16 in an area of 12 octets", written)?;
     kept(rt, "area of 12 octets", &short)?;
-    requests::write_read(area, 1, plain, K);
+    let _ = requests::write_read(area, 1, plain, K);
     kept(rt, "area with a read", area)?;
-    kept(rt, "octets past a read", octets::part(area, 13, 2048))
+    kept(rt, "octets past a read", &area[13..])
 }
 
 // Octets that are no message: 16.
@@ -224,11 +226,11 @@ fn damaged(rt: &impl Print) -> io::Result<()> {
     text(rt, "denial with 80 for a length:")?;
     shown::answer(rt, b"\x10\xFF\x10\x80")?;
     let mut long = [0xaa; 2049];
-    octets::copy(&mut long, 0, b"\x10\xFF\x10\x80\x80");
+    long[..5].copy_from_slice(b"\x10\xFF\x10\x80\x80");
     text(rt, "denial with 128 octets:")?;
-    shown::answer(rt, octets::part(&long, 0, 133))?;
+    shown::answer(rt, &long[..133])?;
     let head = b"\x10\x01\x04\x00\x87\xFB\x00\x11\x22\x33\x44\x55\x66\x77\x87\xF1";
-    octets::copy(&mut long, 0, head);
+    long[..16].copy_from_slice(head);
     text(rt, "2049 octets:")?;
     shown::request(rt, &long)
 }

@@ -1,11 +1,9 @@
 // Shows octets, and what their reader says that they are: the case, its tags and passwords, data as the part of the message where it stands, and the entries of a
 // list, each read where the one before it ends. Text goes to standard output; no contract can speak of it.
 use answers::{Given, Reply};
-use octets::{Access, Form};
+use octets::{Access, Entries, Form, Span, Taken};
 use requests::{Operation, Request};
-use resources::ResourceRead;
 use std::io;
-use tags::{Key, Memory};
 
 // Of longer data and lists, so many octets and entries are shown.
 const SHOWN: usize = 2;
@@ -18,24 +16,17 @@ pub(crate) fn number(rt: &impl Print, n: usize) -> io::Result<()> {
     print!(rt; " {n}")
 }
 
-fn pair(rt: &impl Print, octet: u8) -> io::Result<()> {
-    print!(rt; "{octet:02X}")
-}
-
 // Octets in capital hexadecimal.
 pub(crate) fn hexadecimal(rt: &impl Print, s: &[u8]) -> io::Result<()> {
     for octet in s {
-        pair(rt, *octet)?;
+        print!(rt; "{octet:02X}")?;
     }
     Ok(())
 }
 
 // A tag or a password.
 fn word(rt: &impl Print, x: u64) -> io::Result<()> {
-    let mut field = [0; 8];
-    octets::write_number(&mut field, 0, octets::Width::Eight, x);
-    text(rt, " ")?;
-    hexadecimal(rt, &field)
+    print!(rt; " {x:016X}")
 }
 
 // ---- parts of a message
@@ -60,77 +51,58 @@ fn key(rt: &impl Print, name: &str, access: Access, tag: u64) -> io::Result<()> 
 
 // How many octets or entries there are, and where they start.
 fn place(rt: &impl Print, count: usize, start: usize) -> io::Result<()> {
-    number(rt, count)?;
-    text(rt, " at")?;
-    number(rt, start)?;
-    text(rt, ":")
+    print!(rt; " {count} at {start}:")
 }
 
 // Data, as the part of the message where it stands.
-fn held(rt: &impl Print, s: &[u8], span: octets::Span) -> io::Result<()> {
-    let start = span.start;
-    let len = span.len;
-    place(rt, len, start)?;
-    hexadecimal(rt, octets::part(octets::part(s, start, len), 0, SHOWN))
+fn held(rt: &impl Print, s: &[u8], span: Span) -> io::Result<()> {
+    place(rt, span.len, span.start)?;
+    hexadecimal(rt, octets::part(s, span.start, span.len.min(SHOWN)))
 }
 
-// What a list is of.
-#[derive(Clone, Copy)]
-enum Entry {
-    Key(Form),
-    Memory(Form),
-    Resource,
+// ---- the entries of a list: each is shown, and tells where the next one starts; where none stands, the same place
+
+fn next_key(rt: &impl Print, s: &[u8], at: usize, form: Form) -> io::Result<usize> {
+    let Ok(Taken { value, next }) = tags::read_key(s, at, form) else {
+        return Ok(at);
+    };
+    key(rt, "", value.access, value.tag)?;
+    Ok(next)
 }
 
-// Shows the entry at a place, and says where the next one starts.
-fn next_entry(rt: &impl Print, s: &[u8], at: usize, of: Entry) -> io::Result<usize> {
-    match of {
-        Entry::Key(form) => match tags::read_key(s, at, form) {
-            Key::Bad => Ok(at),
-            Key::Value { access, tag, next } => {
-                key(rt, "", access, tag)?;
-                Ok(next)
-            }
-        },
-        Entry::Memory(form) => match tags::read_memory(s, at, form) {
-            Memory::Bad(_fault) => Ok(at),
-            Memory::Value {
-                access,
-                tag,
-                span,
-                next,
-            } => {
-                key(rt, "", access, tag)?;
-                held(rt, s, span)?;
-                Ok(next)
-            }
-        },
-        Entry::Resource => match resources::read_resource(s, at) {
-            ResourceRead::Bad => Ok(at),
-            ResourceRead::Value { resource, next } => {
-                word(rt, resource.tag)?;
-                number(rt, resource.mode as usize)?;
-                number(rt, resource.held as usize)?;
-                number(rt, resource.size as usize)?;
-                Ok(next)
-            }
-        },
-    }
+fn next_memory(rt: &impl Print, s: &[u8], at: usize, form: Form) -> io::Result<usize> {
+    let Ok(Taken { value, next }) = tags::read_memory(s, at, form) else {
+        return Ok(at);
+    };
+    key(rt, "", value.access, value.tag)?;
+    held(rt, s, value.span)?;
+    Ok(next)
 }
 
-fn list(
+fn next_resource(rt: &impl Print, s: &[u8], at: usize) -> io::Result<usize> {
+    let Ok(Taken { value, next }) = resources::read_resource(s, at) else {
+        return Ok(at);
+    };
+    word(rt, value.tag)?;
+    print!(rt; " {} {} {}", value.mode, value.held, value.size)?;
+    Ok(next)
+}
+
+// A list: its operation, where it stands, and the first of its entries, each shown by `next`.
+fn list<F: Fn(usize) -> io::Result<usize>>(
     rt: &impl Print,
     name: &str,
     form: Form,
-    s: &[u8],
-    entries: octets::Entries,
-    of: Entry,
-) -> io::Result<()> {
+    entries: Entries,
+    next: F,
+) -> io::Result<()>
+    requires { F.IsAlwaysCallable next }
+{
     operation(rt, name, form)?;
     place(rt, entries.count, entries.start)?;
     let mut at = entries.start;
     for _ in 0..entries.count.min(SHOWN) {
-        at = next_entry(rt, s, at, of)?;
+        at = next(at)?;
     }
     Ok(())
 }
@@ -141,15 +113,14 @@ fn request_body(rt: &impl Print, s: &[u8], what: Operation) -> io::Result<()> {
     match what {
         Operation::Resources(entries) => {
             let plain = Form::Plain;
-            list(rt, " resources", plain, s, entries, Entry::Key(plain))
+            list(rt, " resources", plain, entries, |at| {
+                next_key(rt, s, at, plain)
+            })
         }
         Operation::Allocate(allocation) => {
-            let access = allocation.access;
-            let initial = allocation.initial;
-            key(rt, " allocate", access, allocation.tag)?;
-            number(rt, allocation.mode as usize)?;
-            number(rt, allocation.size as usize)?;
-            held(rt, s, initial)
+            key(rt, " allocate", allocation.access, allocation.tag)?;
+            print!(rt; " {} {}", allocation.mode, allocation.size)?;
+            held(rt, s, allocation.initial)
         }
         Operation::Free(access, tag) => key(rt, " free", access, tag),
         Operation::Read(access, tag) => key(rt, " read", access, tag),
@@ -158,10 +129,18 @@ fn request_body(rt: &impl Print, s: &[u8], what: Operation) -> io::Result<()> {
             held(rt, s, span)
         }
         Operation::BulkRead(form, entries) => {
-            list(rt, " bulk-read", form, s, entries, Entry::Key(form))
+            list(
+                rt,
+                " bulk-read",
+                form,
+                entries,
+                |at| next_key(rt, s, at, form),
+            )
         }
         Operation::BulkWrite(form, entries) => {
-            list(rt, " bulk-write", form, s, entries, Entry::Memory(form))
+            list(rt, " bulk-write", form, entries, |at| {
+                next_memory(rt, s, at, form)
+            })
         }
     }
 }
@@ -169,9 +148,9 @@ fn request_body(rt: &impl Print, s: &[u8], what: Operation) -> io::Result<()> {
 // A line: what octets are as a request, or 16.
 pub(crate) fn request(rt: &impl Print, s: &[u8]) -> io::Result<()> {
     match requests::read_request(s) {
-        Request::Bad(_fault) => text(rt, " 16")?,
-        Request::Message { version, operation } => {
-            number(rt, version as usize)?;
+        Err(_) => text(rt, " 16")?,
+        Ok(Request { version, operation }) => {
+            print!(rt; " {version}")?;
             request_body(rt, s, operation)?;
         }
     }
@@ -189,14 +168,14 @@ fn given(rt: &impl Print, name: &str, form: Form, tag: u64) -> io::Result<()> {
 fn answer_body(rt: &impl Print, s: &[u8], what: Given) -> io::Result<()> {
     match what {
         Given::Resources(room, entries) => {
-            text(rt, " room")?;
-            number(rt, room.largest as usize)?;
-            number(rt, room.tags as usize)?;
-            number(rt, room.octets as usize)?;
-            number(rt, room.volatile_tags as usize)?;
-            number(rt, room.volatile_octets as usize)?;
-            number(rt, room.entries as usize)?;
-            list(rt, " resources", Form::Plain, s, entries, Entry::Resource)
+            print!(rt; " room {} {} {}", room.largest, room.tags, room.octets)?;
+            print!(rt;
+                " {} {} {}",
+                room.volatile_tags, room.volatile_octets, room.entries
+            )?;
+            list(rt, " resources", Form::Plain, entries, |at| {
+                next_resource(rt, s, at)
+            })
         }
         Given::Allocate(form, tag) => given(rt, " allocate", form, tag),
         Given::Free(form, tag) => given(rt, " free", form, tag),
@@ -206,17 +185,14 @@ fn answer_body(rt: &impl Print, s: &[u8], what: Given) -> io::Result<()> {
         }
         Given::Write(form, tag) => given(rt, " write", form, tag),
         Given::BulkRead(form, entries) => {
-            list(
-                rt,
-                " bulk-read",
-                form,
-                s,
-                entries,
-                Entry::Memory(Form::Plain),
-            )
+            list(rt, " bulk-read", form, entries, |at| {
+                next_memory(rt, s, at, Form::Plain)
+            })
         }
         Given::BulkWrite(form, entries) => {
-            list(rt, " bulk-write", form, s, entries, Entry::Key(Form::Plain))
+            list(rt, " bulk-write", form, entries, |at| {
+                next_key(rt, s, at, Form::Plain)
+            })
         }
     }
 }
@@ -224,19 +200,19 @@ fn answer_body(rt: &impl Print, s: &[u8], what: Given) -> io::Result<()> {
 // A line: what octets are as an answer or a denial, or 16.
 pub(crate) fn answer(rt: &impl Print, s: &[u8]) -> io::Result<()> {
     match answers::read_answer(s) {
-        Reply::Bad(_fault) => text(rt, " 16")?,
-        Reply::Denied {
-            version,
-            status,
-            supplement,
-        } => {
-            number(rt, version as usize)?;
-            text(rt, " denied")?;
-            number(rt, status as usize)?;
+        Err(_) => text(rt, " 16")?,
+        Ok(
+            Reply::Denied {
+                version,
+                status,
+                supplement,
+            },
+        ) => {
+            print!(rt; " {version} denied {status}")?;
             held(rt, s, supplement)?;
         }
-        Reply::Accepted { version, given } => {
-            number(rt, version as usize)?;
+        Ok(Reply::Accepted { version, given }) => {
+            print!(rt; " {version}")?;
             answer_body(rt, s, given)?;
         }
     }

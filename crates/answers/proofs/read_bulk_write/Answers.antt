@@ -1,23 +1,9 @@
-use mathlib.Core.Path.{refl}
-use Rattle.octets.specs.Layout.{list_of}
-use Rattle.octets.specs.declared.Form.TheVariants.{Plain}
-use Rattle.tags.specs.Entry.{key}
-use Rattle.requests.proofs.Readings.{list-ends}
-use Rattle.answers.specs.Answer as b
-use Rattle.answers.proofs.Readings.{body-bad, body_more, body-there}
+use Rattle.requests.proofs.Readings.{behind, under-bad}
+use Rattle.answers.specs.Answer.{bulk_write}
+use Rattle.answers.proofs.Readings.{decoded-bad}
 use Rattle.answers.proofs.read_bulk_write.Goals as goal
 
-pub returns-then-next-s : goal.returns-then-next-s
-returns-then-next-s c =
-    let e = rw c.in-Value.is at c.read_keys.ensures in
-    body_more b.bulk_write (list_of (key Plain)) (λ l. refl) c.in-Value.next e.says c.if-next-s.true
-
-pub returns-in-Bad : goal.returns-in-Bad
-returns-in-Bad c =
-    let e = rw c.in-Bad.is at c.read_keys.ensures in
-    body-bad b.bulk_write (list_of (key Plain)) (λ l. refl) _ e.says
-
-pub returns-else-next-s : goal.returns-else-next-s
-returns-else-next-s c =
-    let e = rw c.in-Value.is at c.read_keys.ensures in
-    body-there b.bulk_write (list_of (key Plain)) (λ l. refl) c.in-Value.next refl e.says c.if-next-s.false (refl, list-ends (key Plain) _ c.in-Value.list _ c.if-next-s.false e.place)
+pub returns-in_err-list : goal.returns-in_err-list
+returns-in_err-list c =
+    decoded-bad c.from_residual-in_err-list.ensures.1
+    (under-bad bulk_write _ (behind c.in_ok-read_keys.ensures c.in_err-list.ensures))

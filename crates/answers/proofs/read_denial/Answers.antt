@@ -1,124 +1,60 @@
-use Prim.Native.Nat.{◌/◌, ◌<◌}
-use mathlib.Core.Path.{◌≡◌, sym, ◌∙◌}
+use mathlib.Core.Path.{sym, ap, ◌∙◌}
+use Prim.Native.Nat.{◌/◌, ◌≤◌}
 use native.Mathlib.Omega.{arith}
-use lib.ListN.{drop}
-use Rattle.octets.proofs.Places.{end-there, end_more}
-use Rattle.requests.proofs.Readings.{fault-told}
-use Rattle.answers.specs.Denial.{denial}
-use Rattle.answers.proofs.Denials.{from_mark, from_status, from_supplement, past-version, fill-bad, past-mark, mark-bad, past-status, past-supplement, supplement-bad}
+use lib.ListN.{get_or}
+use Rattle.octets.specs.declared.Span.{Span}
+use Rattle.octets.proofs.Places.{end-there}
+use Rattle.requests.proofs.Readings.{handed, at-end, not-end}
+use Rattle.answers.proofs.Denials.{denial-cut, denial-fill, denial-on, denial-refused, past-supplement, supplement-bad, supplement-behind}
 use Rattle.answers.proofs.read_denial.Goals as goal
 
 pub returns-in_default : goal.returns-in_default
-returns-in_default c =
-    let e = rw c.in_default.is at c.read_number.ensures in
-    record { says = rw (← e.says); place = tt }
-
-pub overflow_cast-octet : goal.overflow_cast-octet
-overflow_cast-octet c = let e = rw c.in-Value.is at c.read_number.ensures in omega (arith, e.place)
+returns-in_default c = denial-refused (rw (denial-cut c.args.s.now (omega arith) c.requires))
 
 pub returns-then-fill_of-ne0 : goal.returns-then-fill_of-ne0
 returns-then-fill_of-ne0 c =
-    let e = rw c.in-Value.is at c.read_number.ensures in
-    record { says = rw (fill-bad _ _ _ e.says (λ z. c.if-fill_of-ne0.true (c.fill_of.ensures ∙ z))); place = tt }
+    denial-refused (rw (denial-fill c.args.s.now (omega arith) (λ z. c.if-fill_of-ne0.true (c.fill_of.ensures ∙ z))))
 
-pub returns-in_default-read_number : goal.returns-in_default-read_number
-returns-in_default-read_number c =
-    let g = rw c.in_default-read_number.is at c.read_number-2.ensures in
+pub returns-in_err-read_data : goal.returns-in_err-read_data
+returns-in_err-read_data c =
+    let e = c.in_err-read_data.ensures in
+    rw (handed c.from_residual.ensures.1)
+    (denial-refused
+    (rw (
+      denial-on c.args.s.now (omega arith)
+          (sym c.fill_of.ensures ∙ c.if-fill_of-ne0.false) c.requires,
+      ← e.says,
+    )))
+
+pub returns-in_err-supplement : goal.returns-in_err-supplement
+returns-in_err-supplement c =
+    let b = not-end c.in_ok-read_data.ensures c.in_err-supplement.ensures in
+    rw (handed c.from_residual-in_err-supplement.ensures.1, b.0)
+    (denial-refused
+    (rw (denial-on c.args.s.now (omega arith) (sym c.fill_of.ensures ∙ c.if-fill_of-ne0.false) c.requires)
+    (supplement-behind _ _ 3 c.in_ok-read_data.ensures b.1)))
+
+pub returns-then-supplement-gt127 : goal.returns-then-supplement-gt127
+returns-then-supplement-gt127 c =
+    let b = at-end c.in_ok-read_data.ensures c.in_ok-supplement.ensures in
+    denial-refused (rw (
+      denial-on c.args.s.now (omega arith) (sym c.fill_of.ensures ∙ c.if-fill_of-ne0.false) c.requires,
+      supplement-bad (get_or c.args.s.now 0 0 / 16) (get_or c.args.s.now 2 0) 3 c.in_ok-read_data.ensures
+          (omega (arith, ap (λ (p : Span). p.len) b.0)),
+    ))
+
+pub returns : goal.returns
+returns c =
+    let b = at-end c.in_ok-read_data.ensures c.in_ok-supplement.ensures in
+    let e = c.in_ok-read_data.ensures in
+    let n : c.in_ok-read_data.field-0.value.len ≤ 127 = omega (arith, ap (λ (p : Span). p.len) b.0) in
     record {
       says = rw (
-        (let fact : denial.get c.args.s.now ≡ from_mark ((c.in-Value.octet / 16)) (drop c.in-Value.a c.args.s.now) = let e = rw c.in-Value.is at c.read_number.ensures in
-            past-version _ _ _ e.says (sym c.fill_of.ensures ∙ c.if-fill_of-ne0.false) in fact),
-        ← g.says,
-      );
-      place = tt;
-    }
-
-pub returns-then-mark-ne255 : goal.returns-then-mark-ne255
-returns-then-mark-ne255 c =
-    let g = rw c.in-Value-read_number.is at c.read_number-2.ensures in
-    record {
-      says = rw (
-        (let fact : denial.get c.args.s.now ≡ from_mark ((c.in-Value.octet / 16)) (drop c.in-Value.a c.args.s.now) = let e = rw c.in-Value.is at c.read_number.ensures in
-            past-version _ _ _ e.says (sym c.fill_of.ensures ∙ c.if-fill_of-ne0.false) in fact),
-        mark-bad _ _ _ g.says _ c.if-mark-ne255.true,
-      );
-      place = tt;
-    }
-
-pub returns-in_default-read_number-2 : goal.returns-in_default-read_number-2
-returns-in_default-read_number-2 c =
-    let h = rw c.in_default-read_number-2.is at c.read_number-3.ensures in
-    record {
-      says = rw (
-        (let fact : denial.get c.args.s.now ≡ from_status ((c.in-Value.octet / 16)) (drop c.in-Value-read_number.b c.args.s.now) = let g = rw c.in-Value-read_number.is at c.read_number-2.ensures in
-            (let fact : denial.get c.args.s.now ≡ from_mark ((c.in-Value.octet / 16)) (drop c.in-Value.a c.args.s.now) = let e = rw c.in-Value.is at c.read_number.ensures in
-            past-version _ _ _ e.says (sym c.fill_of.ensures ∙ c.if-fill_of-ne0.false) in fact) ∙ past-mark _ _ _ g.says _ c.if-mark-ne255.false in fact),
-        ← h.says,
-      );
-      place = tt;
-    }
-
-pub returns-then-length-gt127 : goal.returns-then-length-gt127
-returns-then-length-gt127 c =
-    let d = rw c.in-Value-read_data.is at c.read_data.ensures in
-    record {
-      says = rw (
-        (let fact : denial.get c.args.s.now ≡ from_supplement ((c.in-Value.octet / 16)) c.in-Value-read_number-2.status (drop c.in-Value-read_number-2.c c.args.s.now) = let h = rw c.in-Value-read_number-2.is at c.read_number-3.ensures in
-            (let fact : denial.get c.args.s.now ≡ from_status ((c.in-Value.octet / 16)) (drop c.in-Value-read_number.b c.args.s.now) = let g = rw c.in-Value-read_number.is at c.read_number-2.ensures in
-            (let fact : denial.get c.args.s.now ≡ from_mark ((c.in-Value.octet / 16)) (drop c.in-Value.a c.args.s.now) = let e = rw c.in-Value.is at c.read_number.ensures in
-            past-version _ _ _ e.says (sym c.fill_of.ensures ∙ c.if-fill_of-ne0.false) in fact) ∙ past-mark _ _ _ g.says _ c.if-mark-ne255.false in fact) ∙ past-status _ _ _ h.says _ in fact),
-        supplement-bad _ _ d (omega (arith, c.if-length-gt127.true)),
-      );
-      place = tt;
-    }
-
-pub returns-then-end-s : goal.returns-then-end-s
-returns-then-end-s c =
-    let d = rw c.in-Value-read_data.is at c.read_data.ensures in
-    record {
-      says = rw (
-        (let fact : denial.get c.args.s.now ≡ from_supplement ((c.in-Value.octet / 16)) c.in-Value-read_number-2.status (drop c.in-Value-read_number-2.c c.args.s.now) = let h = rw c.in-Value-read_number-2.is at c.read_number-3.ensures in
-            (let fact : denial.get c.args.s.now ≡ from_status ((c.in-Value.octet / 16)) (drop c.in-Value-read_number.b c.args.s.now) = let g = rw c.in-Value-read_number.is at c.read_number-2.ensures in
-            (let fact : denial.get c.args.s.now ≡ from_mark ((c.in-Value.octet / 16)) (drop c.in-Value.a c.args.s.now) = let e = rw c.in-Value.is at c.read_number.ensures in
-            past-version _ _ _ e.says (sym c.fill_of.ensures ∙ c.if-fill_of-ne0.false) in fact) ∙ past-mark _ _ _ g.says _ c.if-mark-ne255.false in fact) ∙ past-status _ _ _ h.says _ in fact),
-        past-supplement _ _ d (omega (arith, c.if-length-gt127.false)),
-        end_more c.args.s.now _ c.in-Value-read_data.end (omega (arith, c.if-end-s.true)),
-      );
-      place = tt;
-    }
-
-pub overflow_cast-octet-in-Value-read_data : goal.overflow_cast-octet-in-Value-read_data
-overflow_cast-octet-in-Value-read_data c = omega (arith, (let fact : (c.in-Value.octet / 16) < 16 = let e = rw c.in-Value.is at c.read_number.ensures in omega (arith, e.place) in fact))
-
-pub overflow_cast-result : goal.overflow_cast-result
-overflow_cast-result c = let h = rw c.in-Value-read_number-2.is at c.read_number-3.ensures in omega (arith, h.place)
-
-pub returns-in-Bad : goal.returns-in-Bad
-returns-in-Bad c =
-    let d = rw c.in-Bad.is at c.read_data.ensures in
-    record {
-      says = rw (
-        (let fact : denial.get c.args.s.now ≡ from_supplement ((c.in-Value.octet / 16)) c.in-Value-read_number-2.status (drop c.in-Value-read_number-2.c c.args.s.now) = let h = rw c.in-Value-read_number-2.is at c.read_number-3.ensures in
-            (let fact : denial.get c.args.s.now ≡ from_status ((c.in-Value.octet / 16)) (drop c.in-Value-read_number.b c.args.s.now) = let g = rw c.in-Value-read_number.is at c.read_number-2.ensures in
-            (let fact : denial.get c.args.s.now ≡ from_mark ((c.in-Value.octet / 16)) (drop c.in-Value.a c.args.s.now) = let e = rw c.in-Value.is at c.read_number.ensures in
-            past-version _ _ _ e.says (sym c.fill_of.ensures ∙ c.if-fill_of-ne0.false) in fact) ∙ past-mark _ _ _ g.says _ c.if-mark-ne255.false in fact) ∙ past-status _ _ _ h.says _ in fact),
-        ← d.says,
-      ) (fault-told _);
-      place = tt;
-    }
-
-pub returns-else-end-s : goal.returns-else-end-s
-returns-else-end-s c =
-    let d = rw c.in-Value-read_data.is at c.read_data.ensures in
-    record {
-      says = rw (
-        (let fact : denial.get c.args.s.now ≡ from_supplement ((c.in-Value.octet / 16)) c.in-Value-read_number-2.status (drop c.in-Value-read_number-2.c c.args.s.now) = let h = rw c.in-Value-read_number-2.is at c.read_number-3.ensures in
-            (let fact : denial.get c.args.s.now ≡ from_status ((c.in-Value.octet / 16)) (drop c.in-Value-read_number.b c.args.s.now) = let g = rw c.in-Value-read_number.is at c.read_number-2.ensures in
-            (let fact : denial.get c.args.s.now ≡ from_mark ((c.in-Value.octet / 16)) (drop c.in-Value.a c.args.s.now) = let e = rw c.in-Value.is at c.read_number.ensures in
-            past-version _ _ _ e.says (sym c.fill_of.ensures ∙ c.if-fill_of-ne0.false) in fact) ∙ past-mark _ _ _ g.says _ c.if-mark-ne255.false in fact) ∙ past-status _ _ _ h.says _ in fact),
-        past-supplement _ _ d (omega (arith, c.if-length-gt127.false)),
-        end-there c.args.s.now _ c.in-Value-read_data.end (omega (arith, c.if-end-s.false)),
+        b.0,
+        denial-on c.args.s.now (omega arith) (sym c.fill_of.ensures ∙ c.if-fill_of-ne0.false) c.requires,
+        past-supplement (get_or c.args.s.now 0 0 / 16) (get_or c.args.s.now 2 0) 3 e n,
+        end-there c.args.s.now _ c.in_ok-read_data.field-0.next b.1,
         c.version_of.ensures,
       );
-      place = (omega (arith, (let fact : (c.in-Value.octet / 16) < 16 = let e = rw c.in-Value.is at c.read_number.ensures in omega (arith, e.place) in fact), c.version_of.ensures), omega (arith, d.place));
+      place = rw (b.0, c.version_of.ensures) (omega arith, omega (arith, e.place, b.1));
     }

@@ -1,21 +1,9 @@
-use mathlib.Core.Path.{refl}
-use Rattle.resources.specs.Resource.{resource, resources}
-use Rattle.requests.proofs.Readings.{list-ends}
-use Rattle.answers.specs.Answer as b
-use Rattle.answers.proofs.Readings.{body-bad, body_more, body-there}
+use Rattle.requests.proofs.Readings.{behind, under-bad}
+use Rattle.answers.specs.Answer.{resource_information}
+use Rattle.answers.proofs.Readings.{decoded-bad}
 use Rattle.answers.proofs.read_resources.Goals as goal
 
-pub returns-then-next-s : goal.returns-then-next-s
-returns-then-next-s c =
-    let e = rw c.in-Value.is at c.read_resources.ensures in
-    body_more b.resource_information resources (λ l. refl) c.in-Value.next e.says c.if-next-s.true
-
-pub returns-in-Bad : goal.returns-in-Bad
-returns-in-Bad c =
-    let e = rw c.in-Bad.is at c.read_resources.ensures in
-    body-bad b.resource_information resources (λ l. refl) _ e.says
-
-pub returns-else-next-s : goal.returns-else-next-s
-returns-else-next-s c =
-    let e = rw c.in-Value.is at c.read_resources.ensures in
-    body-there b.resource_information resources (λ l. refl) c.in-Value.next refl e.says c.if-next-s.false (refl, list-ends resource _ c.in-Value.list _ c.if-next-s.false e.place)
+pub returns-in_err-told : goal.returns-in_err-told
+returns-in_err-told c =
+    decoded-bad c.from_residual-in_err-told.ensures.1
+    (under-bad resource_information _ (behind c.in_ok-read_resources.ensures c.in_err-told.ensures))

@@ -1,12 +1,18 @@
-use Rattle.octets.specs.Frame.{sent, encode, writable}
-use Rattle.requests.specs.Command.{known}
-use Rattle.answers.specs.Answer.{answer_body}
+use Prim.Native.Nat.{◌+◌}
+use mathlib.Core.Path.{◌≡◌, refl}
+use native.Mathlib.Omega.{arith}
+use Rattle.octets.specs.declared.Form.TheVariants.{Plain}
+use Rattle.octets.specs.declared.Access.TheVariants as a
+use Rattle.tags.specs.Entry.{Held, memory}
+use Rattle.answers.specs.Answer.{answer_kind, read}
+use Rattle.requests.specs.Command as o
+use Rattle.answers.proofs.Answers.{sent-is}
 use Rattle.answers.proofs.write_read.Goals as goal
 
-pub returns-in-Plain : goal.returns-in-Plain
-unfolding sent encode writable answer_body known
-returns-in-Plain c = rw c.in-Plain.is c.write_memory.ensures
-
-pub returns-in-Password : goal.returns-in-Password
-unfolding sent encode writable answer_body known
-returns-in-Password c = rw c.in-Password.is c.write_memory-in-Password.ensures
+pub returns : goal.returns
+returns c =
+    let v : Held = ((c.args.tag, a.Plain), c.args.src.now) in
+    let w = c.args.form in
+    let k : 131 + c.form_number-kind.result ≡ answer_kind o.read w = omega (arith, c.form_number-kind.ensures) in
+    rw (← sent-is (read v) w tt (memory Plain) v refl refl k c.args.version c.args.out.now)
+    c.write_memory.ensures

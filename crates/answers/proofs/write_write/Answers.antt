@@ -1,12 +1,18 @@
-use Rattle.octets.specs.Frame.{sent, encode, writable}
-use Rattle.requests.specs.Command.{known}
-use Rattle.answers.specs.Answer.{answer_body}
+use Prim.Native.Nat.{◌+◌}
+use mathlib.Core.Path.{◌≡◌, refl}
+use native.Mathlib.Omega.{arith}
+use Rattle.octets.specs.declared.Form.TheVariants.{Plain}
+use Rattle.octets.specs.declared.Access.TheVariants as a
+use Rattle.tags.specs.Entry.{Keyed, key}
+use Rattle.answers.specs.Answer.{answer_kind, write}
+use Rattle.requests.specs.Command as o
+use Rattle.answers.proofs.Answers.{sent-is}
 use Rattle.answers.proofs.write_write.Goals as goal
 
-pub returns-in-Plain : goal.returns-in-Plain
-unfolding sent encode writable answer_body known
-returns-in-Plain c = rw c.in-Plain.is c.write_key.ensures
-
-pub returns-in-Password : goal.returns-in-Password
-unfolding sent encode writable answer_body known
-returns-in-Password c = rw c.in-Password.is c.write_key-in-Password.ensures
+pub returns : goal.returns
+returns c =
+    let v : Keyed = (c.args.tag, a.Plain) in
+    let w = c.args.form in
+    let k : 132 + c.form_number-kind.result ≡ answer_kind o.write w = omega (arith, c.form_number-kind.ensures) in
+    rw (← sent-is (write v) w tt (key Plain) v refl refl k c.args.version c.args.out.now)
+    c.write_key.ensures

@@ -1,5 +1,6 @@
 use Rattle.tags.specs.Entry.{key}
-use Rattle.lists.proofs.Walks.{list-walked, keys-cut, keys-all}
+use Rattle.octets.proofs.Walks.{list-walked}
+use Rattle.lists.proofs.Walks.{keys-cut, keys-all}
 use Rattle.lists.proofs.read_keys.Goals as goal
 
 pub returns-then-s-start : goal.returns-then-s-start

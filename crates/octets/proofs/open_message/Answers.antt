@@ -1,9 +1,8 @@
-use mathlib.Core.Path.{◌≡◌}
-use mathlib.Core.List.{List, [], ◌∷◌}
-use Prim.Native.Nat.{ℕ, ◌+◌, ◌*◌, ◌≤◌, ◌%◌}
+use mathlib.Core.Path.{◌≡◌, ◌∙◌}
+use Prim.Native.Nat.{◌+◌, ◌*◌, ◌≤◌, ◌%◌}
 use native.Mathlib.Omega.{arith}
-use lib.ListN.{length}
-use Rattle.octets.proofs.Areas.{opened-version, opened-long, opened-short, opened-done, length-opening, opening-laid, laid-holds}
+use lib.ListN.{length, length-set}
+use Rattle.octets.proofs.Areas.{opened-version, opened-long, opened-short, opened-done, length-opening, opening-laid}
 use Rattle.octets.specs.Frame.{opening}
 use Rattle.octets.proofs.open_message.Goals as goal
 
@@ -18,16 +17,22 @@ returns-then-out-start c =
     let l = length-opening c.args.version c.args.kind c.args.body in
     opened-short c.args.version c.args.kind c.args.body c.args.out.now (omega arith) (omega arith) (omega arith)
 
+pub bounds-out-1 : goal.bounds-out-1
+bounds-out-1 c = simp length-set (omega arith)
+
+pub bounds-out-2 : goal.bounds-out-2
+bounds-out-2 c = simp length-set (omega arith)
+
+pub bounds-out-3 : goal.bounds-out-3
+bounds-out-3 c = simp length-set (omega arith)
+
+pub shape_of-out : goal.shape_of-out
+shape_of-out c = c.write_length.auto.out ∙ simp length-set
+
 pub returns : goal.returns
 returns c =
-    let v = c.args.version in
-    let k = c.args.kind in
-    let n = c.args.body in
-    let old = c.args.out.now in
-    let l = length-opening v k n in
-    let e : v * 16 % 256 ≡ v * 16 = omega arith in
-    let h : length (opening v k n) + n ≤ length old = omega arith in
-    let front : List ℕ = (v * 16) ∷ 1 ∷ k ∷ 0 ∷ [] in
-    let x = laid-holds old 0 front (omega arith) (rw e at c.copy.ensures) in
-    opened-done v k n old (omega arith) (omega arith) (4 + c.length_size-start.result) c.write_length.new.out h (omega arith)
-    (opening-laid v k n c.write_length.result old _ _ (omega arith) h x c.write_length.ensures)
+    let l = length-opening c.args.version c.args.kind c.args.body in
+    let e : c.args.version * 16 % 256 ≡ c.args.version * 16 = omega arith in
+    let h : length (opening c.args.version c.args.kind c.args.body) + c.args.body ≤ length c.args.out.now = omega arith in
+    opened-done c.args.version c.args.kind c.args.body c.args.out.now (omega arith) (omega arith) (4 + c.length_size-start.result) c.write_length.new.out h (omega arith)
+    (opening-laid c.args.version c.args.kind c.args.body c.write_length.result c.args.out.now _ _ (omega arith) h (rw e) c.write_length.ensures)

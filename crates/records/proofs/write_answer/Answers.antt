@@ -4,19 +4,12 @@ use lib.ListN.{length-append}
 use Rattle.octets.proofs.Areas.{wrote-more, wrote-length}
 use Rattle.records.specs.Text.{digits, decimal, space, line_end, answer_line}
 use Rattle.records.proofs.Text.{length_digits, length-hexadecimal, wrote_on}
-use mathlib.Core.Path.{◌∙◌}
 use Rattle.records.proofs.write_answer.Goals as goal
-
-pub write_digits-a-requires : goal.write_digits-a-requires
-write_digits-a-requires c = omega (arith, c.requires)
 
 pub write_hexadecimal-c-requires : goal.write_hexadecimal-c-requires
 write_hexadecimal-c-requires c = let d = length_digits 10 c.args.number in
     let w = wrote-more space c.write_digits-a.ensures (omega (arith, c.requires)) c.copy-b.ensures in
     omega (arith, w.next, wrote-length w, length-append (digits 10 c.args.number) space, c.requires)
-
-pub shape_of-out : goal.shape_of-out
-shape_of-out c = c.copy.auto.out ∙ c.write_hexadecimal-c.auto.out ∙ c.copy-b.auto.out ∙ c.write_digits-a.auto.out
 
 pub returns : goal.returns
 unfolding answer_line decimal

@@ -4,15 +4,11 @@ use lib.ListN.{length-append}
 use Rattle.octets.proofs.Areas.{wrote_none, wrote-more, wrote-length}
 use Rattle.records.specs.Text.{decimal, line_end, worded}
 use Rattle.records.proofs.Text.{length_digits, wrote_on}
-use mathlib.Core.Path.{◌∙◌}
 use Rattle.records.proofs.write_words.Goals as goal
 
 pub write_digits-b-requires : goal.write_digits-b-requires
 write_digits-b-requires c = let w = wrote-more c.args.words.now (wrote_none c.args.out.now c.args.at) (omega (arith, c.requires)) c.copy-a.ensures in
     omega (arith, w.next, wrote-length w, c.requires)
-
-pub shape_of-out : goal.shape_of-out
-shape_of-out c = c.copy.auto.out ∙ c.write_digits-b.auto.out ∙ c.copy-a.auto.out
 
 pub returns : goal.returns
 unfolding worded decimal

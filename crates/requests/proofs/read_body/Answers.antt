@@ -13,19 +13,27 @@ returns-in-1 c = decoded-either c.read_allocate.ensures c.form_at-form.ensures c
 
 pub returns-in_err-key-in-2 : goal.returns-in_err-key-in-2
 returns-in_err-key-in-2 c =
-    decoded-either (tag-bad free b.free (λ l. refl) c.from_residual.ensures.1 c.in_err-key-in-2.ensures) c.form_at-form.ensures c.in-2.is tt tt
+    decoded-either
+    (tag-bad free b.free (λ l. refl) c.from_residual.ensures.1 c.in_err-key-in-2.ensures)
+    c.form_at-form.ensures c.in-2.is tt tt
 
 pub returns-in_ok-key-in-2 : goal.returns-in_ok-key-in-2
 returns-in_ok-key-in-2 c =
-    decoded-either (tag-good free b.free (λ l. refl) c.in_ok-key-in-2.ensures refl refl tt) c.form_at-form.ensures c.in-2.is tt tt
+    decoded-either
+    (tag-good free b.free (λ l. refl) c.in_ok-key-in-2.ensures refl refl tt)
+    c.form_at-form.ensures c.in-2.is tt tt
 
 pub returns-in_err-key-in-3 : goal.returns-in_err-key-in-3
 returns-in_err-key-in-3 c =
-    decoded-either (tag-bad read b.read (λ l. refl) c.from_residual-in_err-key-in-3.ensures.1 c.in_err-key-in-3.ensures) c.form_at-form.ensures c.in-3.is tt tt
+    decoded-either
+    (tag-bad read b.read (λ l. refl) c.from_residual-in_err-key-in-3.ensures.1 c.in_err-key-in-3.ensures)
+    c.form_at-form.ensures c.in-3.is tt tt
 
 pub returns-in_ok-key-in-3 : goal.returns-in_ok-key-in-3
 returns-in_ok-key-in-3 c =
-    decoded-either (tag-good read b.read (λ l. refl) c.in_ok-key-in-3.ensures refl refl tt) c.form_at-form.ensures c.in-3.is tt tt
+    decoded-either
+    (tag-good read b.read (λ l. refl) c.in_ok-key-in-3.ensures refl refl tt)
+    c.form_at-form.ensures c.in-3.is tt tt
 
 pub returns-in-4 : goal.returns-in-4
 returns-in-4 c = decoded-either c.read_write.ensures c.form_at-form.ensures c.in-4.is tt tt

@@ -6,4 +6,5 @@ use Rattle.requests.proofs.read_write.Goals as goal
 pub returns-in_err-span : goal.returns-in_err-span
 returns-in_err-span c =
     let e = c.in_ok-key.ensures in
-    decoded-bad c.from_residual-in_err-span.ensures.1 (rw (← e.says) (under-bad write _ (under-bad (λ d. (keyed c.in_ok-key.field-0.value, d)) _ (behind c.in_ok-read_data.ensures c.in_err-span.ensures))))
+    let d = under-bad (λ d. (keyed c.in_ok-key.field-0.value, d)) _ (behind c.in_ok-read_data.ensures c.in_err-span.ensures) in
+    decoded-bad c.from_residual-in_err-span.ensures.1 (rw (← e.says) (under-bad write _ d))

@@ -11,4 +11,5 @@ unfolding keys_sent
 returns c =
     let w = c.args.form in
     let v = keys_of w c.args.tags.now c.args.passwords.now in
-    rw (← sent-is (bulk_read v) w tt (list_of (key w)) v refl refl c.args.version c.args.out.now, ← c.form_number-kind.ensures.0) c.write_keys.ensures
+    rw (← sent-is (bulk_read v) w tt (list_of (key w)) v refl refl c.args.version c.args.out.now, ← c.form_number-kind.ensures.0)
+    c.write_keys.ensures

@@ -11,4 +11,5 @@ unfolding memories_sent
 returns c =
     let w = c.args.form in
     let v = held_of w c.args.tags.now c.args.passwords.now c.args.starts.now c.args.lengths.now c.args.src.now in
-    rw (← sent-is (bulk_write v) w tt (list_of (memory w)) v refl refl c.args.version c.args.out.now, ← c.form_number-kind.ensures.0) c.write_memories.ensures
+    rw (← sent-is (bulk_write v) w tt (list_of (memory w)) v refl refl c.args.version c.args.out.now, ← c.form_number-kind.ensures.0)
+    c.write_memories.ensures

@@ -12,4 +12,5 @@ pub returns : goal.returns
 unfolding keys_sent agrees
 returns c =
     let v = keys_of Plain c.args.tags.now [] in
-    rw (← sent-is (resource_information v) Plain tt (list_of (key Plain)) v refl refl c.args.version c.args.out.now) c.write_keys.ensures
+    rw (← sent-is (resource_information v) Plain tt (list_of (key Plain)) v refl refl c.args.version c.args.out.now)
+    c.write_keys.ensures

@@ -1,83 +1,61 @@
-use mathlib.Core.Path.{refl, ap}
+use mathlib.Core.Path.{refl}
 use native.Mathlib.Omega.{arith}
-use Rattle.octets.specs.Reading.{Octets}
 use Rattle.octets.specs.declared.Form.TheVariants as f
-use Rattle.admission.specs.declared.Head.{Head}
-use Rattle.responder.specs.Respond.{act, resources_done, read_done, bulk_read_done}
-use Rattle.responder.proofs.Sends.{sound-version}
-use Rattle.responder.proofs.Performs.{forms, count-is, sound-list, denies, performs-seven, performs}
-use Rattle.responder.proofs.Shown.{read_left}
+use Rattle.admission.specs.declared.Denial.TheVariants as d
+use Rattle.responder.specs.Respond.{act, resources_done, bulk_read_done}
+use Rattle.responder.proofs.Performs.{forms, denies, performs-seven, performs}
 use Rattle.responder.proofs.perform.Goals as goal
-
-pub deny-requires : goal.deny-requires
-deny-requires c = (sound-version _ _ _ c.requires.sound, c.requires.room)
 
 pub returns-then-head-entry_count : goal.returns-then-head-entry_count
 returns-then-head-entry_count c = λ u v s.
-    let o : Octets c.args.s.now = λ i. (c.type_inv.s i).fits in
-    performs-seven u c.args.head (ap (λ (g : Head). g.limits.list) s.head) c.args.port c.args.s.now v c.args.operation (count-is c.args.s.now c.args.operation o c.requires.operation_place) _ _ _ _ _ (rw c.entry_count.ensures at c.if-head-entry_count.true)
-    (denies u _ _ _ _ _ 7 _ s c.deny.ensures)
-
-pub serve_resources-requires : goal.serve_resources-requires
-serve_resources-requires c = let e = rw c.in-Resources.is at c.entry_count.ensures in
-    record { limits = (sound-version _ _ _ c.requires.sound, omega (arith, e, c.if-head-entry_count.false, sound-list _ _ _ c.requires.sound), c.requires.room); list_ends = rw c.in-Resources.is at c.requires.operation_place }
-
-pub serve_allocate-requires : goal.serve_allocate-requires
-serve_allocate-requires c = (sound-version _ _ _ c.requires.sound, c.requires.room)
-
-pub bulk_read-requires : goal.bulk_read-requires
-bulk_read-requires c = let e = rw c.in-BulkRead.is at c.entry_count.ensures in
-    record { sound = c.requires.sound; room = (omega (arith, e, c.if-head-entry_count.false, sound-list _ _ _ c.requires.sound), c.requires.room); list_ends = rw c.in-BulkRead.is at c.requires.operation_place }
-
-pub bulk_write-requires : goal.bulk_write-requires
-bulk_write-requires c = let e = rw c.in-BulkWrite.is at c.entry_count.ensures in
-    record { sound = c.requires.sound; room = (omega (arith, e, c.if-head-entry_count.false, sound-list _ _ _ c.requires.sound), c.requires.room); list_ends = rw c.in-BulkWrite.is at c.requires.operation_place }
+    rw (performs-seven u _ _ _ s c.args.port c.args.s.now v c.args.operation (λ i. (c.type_inv.s i).fits)
+    c.requires.operation_place (omega arith)) (denies u _ _ _ _ d.List s)
 
 pub returns-in-Resources : goal.returns-in-Resources
 unfolding act resources_done
 returns-in-Resources c = λ u v s.
-    let o : Octets c.args.s.now = λ i. (c.type_inv.s i).fits in
-    let k = count-is c.args.s.now c.args.operation o c.requires.operation_place in
-    performs u c.args.head (ap (λ (b : Head). b.limits.list) s.head) c.args.port c.args.s.now v c.args.operation k _ _ _ _ _ _ f.Plain c.in-Resources.is (omega (arith, c.entry_count.ensures, c.if-head-entry_count.false)) refl (record { sends = c.serve_resources.ensures u _ s; left = s })
+    rw (performs u _ _ _ s c.args.port c.args.s.now v c.args.operation (λ i. (c.type_inv.s i).fits)
+    c.requires.operation_place _ f.Plain c.in-Resources.is (omega arith) refl)
+    (record { sends = c.serve_resources.ensures u _ s; left = s })
 
 pub returns-in-Allocate : goal.returns-in-Allocate
 unfolding act
 returns-in-Allocate c = λ u v s.
-    let o : Octets c.args.s.now = λ i. (c.type_inv.s i).fits in
-    let k = count-is c.args.s.now c.args.operation o c.requires.operation_place in
-    performs u c.args.head (ap (λ (b : Head). b.limits.list) s.head) c.args.port c.args.s.now v c.args.operation k _ _ _ _ _ _ _ c.in-Allocate.is (omega (arith, c.entry_count.ensures, c.if-head-entry_count.false)) (forms _).0 (c.serve_allocate.ensures u _ _ s)
+    rw (performs u _ _ _ s c.args.port c.args.s.now v c.args.operation (λ i. (c.type_inv.s i).fits)
+    c.requires.operation_place _ _ c.in-Allocate.is (omega arith) (forms _).0)
+    (c.serve_allocate.ensures u _ _ s)
 
 pub returns-in-Free : goal.returns-in-Free
 unfolding act
 returns-in-Free c = λ u v s.
-    let o : Octets c.args.s.now = λ i. (c.type_inv.s i).fits in
-    let k = count-is c.args.s.now c.args.operation o c.requires.operation_place in
-    performs u c.args.head (ap (λ (b : Head). b.limits.list) s.head) c.args.port c.args.s.now v c.args.operation k _ _ _ _ _ _ _ c.in-Free.is (omega (arith, c.entry_count.ensures, c.if-head-entry_count.false)) (forms _).1 (c.serve_free.ensures u s)
+    rw (performs u _ _ _ s c.args.port c.args.s.now v c.args.operation (λ i. (c.type_inv.s i).fits)
+    c.requires.operation_place _ _ c.in-Free.is (omega arith) (forms _).1)
+    (c.serve_free.ensures u s)
 
 pub returns-in-Read : goal.returns-in-Read
-unfolding act read_done
+unfolding act
 returns-in-Read c = λ u v s.
-    let o : Octets c.args.s.now = λ i. (c.type_inv.s i).fits in
-    let k = count-is c.args.s.now c.args.operation o c.requires.operation_place in
-    performs u c.args.head (ap (λ (b : Head). b.limits.list) s.head) c.args.port c.args.s.now v c.args.operation k _ _ _ _ _ _ _ c.in-Read.is (omega (arith, c.entry_count.ensures, c.if-head-entry_count.false)) (forms _).2 (record { sends = c.serve_read.ensures u s; left = rw (← read_left u _ _ _ _) s })
+    rw (performs u _ _ _ s c.args.port c.args.s.now v c.args.operation (λ i. (c.type_inv.s i).fits)
+    c.requires.operation_place _ _ c.in-Read.is (omega arith) (forms _).2)
+    (c.serve_read.ensures u s)
 
 pub returns-in-Write : goal.returns-in-Write
 unfolding act
 returns-in-Write c = λ u v s.
-    let o : Octets c.args.s.now = λ i. (c.type_inv.s i).fits in
-    let k = count-is c.args.s.now c.args.operation o c.requires.operation_place in
-    performs u c.args.head (ap (λ (b : Head). b.limits.list) s.head) c.args.port c.args.s.now v c.args.operation k _ _ _ _ _ _ _ c.in-Write.is (omega (arith, c.entry_count.ensures, c.if-head-entry_count.false)) (forms _).3 (rw c.part-src.ensures at (c.serve_write.ensures u s))
+    rw (performs u _ _ _ s c.args.port c.args.s.now v c.args.operation (λ i. (c.type_inv.s i).fits)
+    c.requires.operation_place _ _ c.in-Write.is (omega arith) (forms _).3)
+    (rw c.part-src.ensures at (c.serve_write.ensures u s))
 
 pub returns-in-BulkRead : goal.returns-in-BulkRead
 unfolding act bulk_read_done
 returns-in-BulkRead c = λ u v s.
-    let o : Octets c.args.s.now = λ i. (c.type_inv.s i).fits in
-    let k = count-is c.args.s.now c.args.operation o c.requires.operation_place in
-    performs u c.args.head (ap (λ (b : Head). b.limits.list) s.head) c.args.port c.args.s.now v c.args.operation k _ _ _ _ _ _ c.in-BulkRead.form c.in-BulkRead.is (omega (arith, c.entry_count.ensures, c.if-head-entry_count.false)) (forms _).4 (record { sends = c.bulk_read.ensures u s; left = s })
+    rw (performs u _ _ _ s c.args.port c.args.s.now v c.args.operation (λ i. (c.type_inv.s i).fits)
+    c.requires.operation_place _ c.in-BulkRead.form c.in-BulkRead.is (omega arith) (forms _).4)
+    (record { sends = c.bulk_read.ensures u s; left = s })
 
 pub returns-in-BulkWrite : goal.returns-in-BulkWrite
 unfolding act
 returns-in-BulkWrite c = λ u v s.
-    let o : Octets c.args.s.now = λ i. (c.type_inv.s i).fits in
-    let k = count-is c.args.s.now c.args.operation o c.requires.operation_place in
-    performs u c.args.head (ap (λ (b : Head). b.limits.list) s.head) c.args.port c.args.s.now v c.args.operation k _ _ _ _ _ _ _ c.in-BulkWrite.is (omega (arith, c.entry_count.ensures, c.if-head-entry_count.false)) (forms _).5 (c.bulk_write.ensures u s)
+    rw (performs u _ _ _ s c.args.port c.args.s.now v c.args.operation (λ i. (c.type_inv.s i).fits)
+    c.requires.operation_place _ _ c.in-BulkWrite.is (omega arith) (forms _).5)
+    (c.bulk_write.ensures u s)

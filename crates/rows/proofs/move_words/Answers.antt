@@ -9,4 +9,6 @@ pub returns : goal.returns
 returns c =
     let t = c.args.table.now in
     let from = c.args.from in
-    c.copy_within.ensures.after ∙ pasted t (drop (from + 8) t) from _ (c.args.to - from) (omega arith) (omega (arith, length-drop (from + 8) t)) (omega arith)
+    let rest = length-drop (from + 8) t in
+    let n = c.args.to - from in
+    c.copy_within.ensures.after ∙ pasted t (drop (from + 8) t) from _ n (omega arith) (omega (arith, rest)) (omega arith)

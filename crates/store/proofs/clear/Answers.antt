@@ -10,9 +10,12 @@ loop-i-init c = (omega arith, start _ _ _ _ (omega arith))
 
 pub loop-i-preserved : goal.loop-i-preserved
 loop-i-preserved c =
-    let n = c.args.to - c.args.from in
-    (omega arith, rw c.loop-i.invariant.1 (zero-step c.args.pool.now c.args.from n c.loop-i.i (c.loop-i.i - c.args.from) (c.loop-i.i + 1 - c.args.from) (omega arith) (omega arith) (omega arith)))
+    let from = c.args.from in
+    let i = c.loop-i.i in
+    let e = zero-step c.args.pool.now from (c.args.to - from) i (i - from) (i + 1 - from) (omega arith) (omega arith) (omega arith) in
+    (omega arith, rw c.loop-i.invariant.1 e)
 
 pub returns : goal.returns
 returns c =
-    c.loop-i.invariant.1 ∙ done _ _ _ _ (omega (arith, length-replicate {A = ℕ} (c.args.to - c.args.from) 0))
+    let n = length-replicate {A = ℕ} (c.args.to - c.args.from) 0 in
+    c.loop-i.invariant.1 ∙ done _ _ _ _ (omega (arith, n))

@@ -20,4 +20,5 @@ returns c =
     let last = c.args.end - c.args.n in
     let e : c.args.end - last ≡ c.args.n = omega arith in
     c.clear.ensures ∙ ap (λ (k : ℕ). sets c.loop-i.pool last (replicate k 0)) e
-    ∙ close-all c.args.pool.now c.loop-i.pool c.args.at c.args.n _ (c.loop-i.i - c.args.at) last c.args.end c.loop-i.invariant refl (omega arith) (omega arith) (omega arith)
+    ∙ close-all c.args.pool.now c.loop-i.pool c.args.at c.args.n _ (c.loop-i.i - c.args.at) last c.args.end c.loop-i.invariant
+    refl (omega arith) (omega arith) (omega arith)
