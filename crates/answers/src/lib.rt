@@ -149,7 +149,7 @@ fn read_resources(s: &[u8], at: usize) -> Result<Given, Fault>
 }
 
 // What a unit can take, and for each tag of the list its mode, data size and area size. Where the slices are not of
-// one length, 16. They stand side by side, here and in write_bulk_read: so the C interface hands them over.
+// one length, 16. So they stand side by side, here and in write_bulk_read.
 pub fn write_resources(
     out: &mut [u8],
     version: u8,

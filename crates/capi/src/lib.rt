@@ -31,7 +31,7 @@ use store::Unit;
 
 // ---- why a call is refused, and the number that a caller is given
 
-// Why a call is refused. Each variant has document 01's number, which `number` gives.
+// Why a call is refused. Each has a number, which `number` gives.
 #[derive(Clone, Copy, PartialEq, Eq)]
 enum Refusal {
     // 16: a number that is too great, a message that may not be written, or octets that do not decode.

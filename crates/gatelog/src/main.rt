@@ -20,7 +20,7 @@ const BUFFER: usize = 65536;
 
 // Where the program stands: the unit's head, how many records are answered, the octets at hand (from `start` to `end` of the input buffer), how many characters are not
 // yet written, how many were handed over to be written last, whether the input is at its end, and whether to go on.
-// `last` and `going` are fields, and no Option of a place: `TurnTaken` says also of a place that stops what was handed over.
+// `last` and `going` hold of any place, also of one that stops: an Option of a place would lose what that one holds.
 #[derive(Clone, Copy)]
 struct Place {
     head: Head,

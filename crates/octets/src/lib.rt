@@ -209,8 +209,8 @@ fn number_of(s: &[u8]) -> u64
 
 // ---- the fields, at a place
 
-// Slice and place come apart here and in the crates above: document 01 names a reader by value, which stays where it
-// stands, and C hands over the two.
+// Slice and place come apart here and in the crates above: document 01 names a cursor by value, and one that moves
+// would be handed on by `&mut`.
 
 // The length or count that stands at a place.
 pub fn read_length(s: &[u8], at: usize) -> Reading<usize>

@@ -196,7 +196,7 @@ pub struct Outcome {
 }
 
 // Answers a record.
-// The unit comes as head, table and memory, as `respond` takes it and the C interface lends it.
+// The unit comes as head, table and memory, as `respond` takes it.
 fn answer(
     head: Head,
     table: &mut [u64],

@@ -110,7 +110,7 @@ fn read_resources(s: &[u8], at: usize) -> Result<Operation, Fault>
 }
 
 // Asks for resource information of tags.
-// Writers take a tag and its access apart, and lists as slices side by side: so the C interface hands them over.
+// Writers take a tag and its access apart, as `Operation` has them, and lists as slices side by side, as C hands them over.
 pub fn write_resources(out: &mut [u8], version: u8, tags: &[u64]) -> Written
     ensures { Does (request_sent (request version Form.Plain (b.resource_information (keys_of Form.Plain tags.now []))) out.old) result out.new }
 {

@@ -95,7 +95,7 @@ fn first_lines(head: Head, s: &[u8]) -> Result<(), Denial>
 
 // ---- single commands
 
-// Head, table and memory come apart here and below, as the store takes them and C lends them.
+// Head, table and memory come apart here and below, as the store takes them.
 
 fn serve_allocate(
     head: Head,

@@ -2,7 +2,7 @@
 // Rules: document 01, 'Sizes', 'Tags', the per-operation rules of 'Denials and their order', and 'Lists' for the remaining numbers. A unit is a head by value, a table
 // and a memory that its owner lends; what they stand for is `State` (specs/Model), and what each operation answers and does to it stands in specs/Steps.
 // An operation asks nothing of its caller but that head, table and memory are what a start and the operations gave.
-// The three stay apart, in no struct: the C interface lends table and memory each as a slice of its own.
+// The three stay apart: a type with `Sound` would ask it of `find`, `read`, `remainder`, `allocate` and `fit`.
 #![tactic(auto)]
 
 ghost use Rattle.std.specs.Prelude.{◌≡◌, List, ℕ, ◌+◌, ◌-◌, ◌*◌, ◌≤◌, ◌<◌, length, replicate};

@@ -88,7 +88,7 @@ pub fn read_key(s: &[u8], at: usize, form: Form) -> Reading<Key>
 
 // Writes a tag, and its password if there is one, if the area has room for both.
 // Here and in put_memory each field's place is computed, not what the writer before it returns, which hangs on a test of room.
-// The writers take a tag and its access apart, not as a Key: so the C interface hands them over.
+// The writers take a tag and its access apart: a Key would be put together by each caller and taken apart here.
 pub fn put_key(out: &mut [u8], at: usize, access: Access, tag: u64) -> usize
     ensures { Laid out.old at ((key (form_of access)).put (tag, access)) out.new result }
 {
