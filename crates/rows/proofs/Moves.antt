@@ -25,6 +25,11 @@ pub step : (d s : List ℕ) (at i j j' v : ℕ) → i ≡ at + j → j' ≡ suc 
 unfolding part
 step d s at i j j' v ei ej ev h = rw (ei, ej, ev, ← add-one j) (sets-step d s at j h)
 
+-- where the loop stops before the end of s
+pub stopped : (d s : List ℕ) (at j n : ℕ) → j ≡ n → part d at s j ≡ sets d at (take n s)
+unfolding part
+stopped d s at j n e = rw e
+
 -- and at its end
 pub done : (d s : List ℕ) (at j : ℕ) → j ≡ length s → part d at s j ≡ sets d at s
 unfolding part

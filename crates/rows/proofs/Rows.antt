@@ -10,7 +10,7 @@ use native.Mathlib.Decide.{ℕ_discrete}
 use lib.ListN.{length, take, drop, get_or, set, replicate, length-append, length-drop}
 use lib.Dec.{eqb}
 use lib.Seq.{sets, length-sets, length-take-le, take-suc, drop-cons, set_at, get_or_at, take_all, drop-length}
-use borrow.Author.Tests.{ne_eqb, eqb-true, eqb-false, le-leb, lt-ltb}
+use borrow.Author.Tests.{eq-eqb, ne_eqb, eqb-true, eqb-false, le-leb, lt-leb, le-ltb, lt-ltb}
 use Rattle.octets.specs.Area.{laid}
 use Rattle.octets.specs.declared.Access.{Access}
 use Rattle.admission.specs.Mode.{mode_code, code_spf, code_mode}
@@ -102,6 +102,11 @@ pub slot-there : (t : List ℕ) (i : ℕ) → i * 8 + 8 ≤ length t → slot_at
 unfolding slot_at
 slot-there t i h = rw (le-leb _ _ h)
 
+-- a row past the table
+pub slot-past : (t : List ℕ) (i : ℕ) → length t < i * 8 + 8 → slot_at t i ≡ empty
+unfolding slot_at
+slot-past t i h = rw (lt-leb _ _ h)
+
 -- a row is loaded
 pub slot-load : (ss : List Slot) (i n : ℕ) → i < length ss → length ss * 8 ≤ n → slot_at (image words ss n) i ≡ get_or ss i empty
 slot-load ss i n h l = slot-there (image words ss n) i (omega (arith, length-table ss n l)) ∙ slot-in ss i n h
@@ -111,10 +116,20 @@ pub put-there : (t : List ℕ) (s : Slot) (j : ℕ) → j + 8 ≤ length t → l
 unfolding laid
 put-there t s j h = let e : j + length (words s) ≤ length t = omega (arith, length-row s) in rw (le-leb _ _ e)
 
+-- a row past the table is not stored
+pub put-past : (t : List ℕ) (s : Slot) (j : ℕ) → length t < j + 8 → laid t j (words s) ≡ t
+unfolding laid
+put-past t s j h = let e : length t < j + length (words s) = omega (arith, length-row s) in rw (lt-leb _ _ e)
+
 -- a held length is stored in a row that the table has
 pub held-there : (t : List ℕ) (i n : ℕ) → i * 8 + 8 ≤ length t → with_held t i n ≡ set t (i * 8 + 3) n
 unfolding with_held
 held-there t i n h = rw (le-leb _ _ h)
+
+-- in a row past the table none is
+pub held-past : (t : List ℕ) (i n : ℕ) → length t < i * 8 + 8 → with_held t i n ≡ t
+unfolding with_held
+held-past t i n h = rw (lt-leb _ _ h)
 
 -- the row's other words stay
 pub held-store : (ss : List Slot) (i k n : ℕ) → i < length ss → length ss * 8 ≤ n
@@ -141,10 +156,21 @@ rows-in t count h = omega arith
 pub rows_fit : (t : List ℕ) (count : ℕ) → rows_in t count * 8 ≤ length t
 rows_fit t count = omega arith
 
+-- the row at hand has the tag
+pub scan-hit : (t : List ℕ) (x k n : ℕ) → 0 < n → get_or t (k * 8) 0 ≡ x → scan t x k n ≡ Some k
+unfolding scan
+scan-hit t x k zero h e = absurd (omega arith)
+scan-hit t x k (suc n) h e = rw (eq-eqb (get_or t (k * 8) 0) x e)
+
 -- it has not, and the next is looked at
 pub scan-miss : (t : List ℕ) (x k n k' n' : ℕ) → k' ≡ suc k → n ≡ suc n' → (get_or t (k * 8) 0 ≡ x → ⊥) → scan t x k n ≡ scan t x k' n'
 unfolding scan
 scan-miss t x k n k' n' ek en h = rw (ek, en, ne_eqb (get_or t (k * 8) 0) x h)
+
+-- no row is left
+pub scan-none : (t : List ℕ) (x k n : ℕ) → n ≡ 0 → scan t x k n ≡ None
+unfolding scan
+scan-none t x k n e = rw e
 
 -- a row that is found is one of those looked at, and has the tag
 pub scan-found : (t : List ℕ) (x k n i : ℕ) → scan t x k n ≡ Some i → (i < k + n) × (get_or t (i * 8) 0 ≡ x)
@@ -245,6 +271,17 @@ sunk-is at n ss len k h =
     sunk-part at n ss len k (omega arith)
     ∙ rw (h, take_all (length ss) ss (omega arith), drop-length ss, append-nil)
 
+-- no row, as a loop starts
+pub sunk-none : (at n : ℕ) (t : List ℕ) → t ≡ sunk at n t 0
+unfolding sunk
+sunk-none at n t = refl
+
+-- one row more, as a loop turns
+pub sunk-more : (at n : ℕ) (t : List ℕ) (k k' : ℕ) → k' ≡ suc k
+    → set (sunk at n t k) (k * 8 + 1) (low at n (get_or (sunk at n t k) (k * 8 + 1) 0)) ≡ sunk at n t k'
+unfolding sunk
+sunk-more at n t k k' e = rw e
+
 -- ---- a row goes
 
 -- one slot less
@@ -265,6 +302,16 @@ slot-removed ss i k n e h l =
     (omega (arith, length-words ss)) (omega (arith, length-words ss)) in
     rw (lt-ltb i k a, le-leb (k * 8) (length (image words ss n)) b, slot-in ss i n h, c)
     (sunk-is (get_or ss i empty).at (get_or ss i empty).about.size (remove ss i) n (k - 1) (omega (arith, length-remove ss i h)))
+
+-- no such row: nothing changes
+pub removed-none : (t : List ℕ) (count i : ℕ) → count ≤ i → removed t count i ≡ t
+unfolding removed
+removed-none t count i h = rw (le-ltb i count h)
+
+-- more rows than the table has: nothing changes
+pub removed-short : (t : List ℕ) (count i : ℕ) → i < count → length t < count * 8 → removed t count i ≡ t
+unfolding removed
+removed-short t count i h l = rw (lt-ltb i count h, lt-leb (count * 8) (length t) l)
 
 -- the row's slot is read, the rows behind it move up, the empty slot comes last, and the areas behind start earlier
 pub removed-steps : (t x y w : List ℕ) (q r : Slot) (count i : ℕ) → i < count → count * 8 ≤ length t → q ≡ slot_at t i
