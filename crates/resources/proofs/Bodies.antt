@@ -1,12 +1,12 @@
 -- Allocation and resource information: they read back, how long they are, and which values fit.
-use Prim.Native.Nat.{ℕ, ◌+◌, ◌*◌, ◌^◌, ◌<◌}
+use Prim.Native.Nat.{ℕ, ◌+◌, ◌*◌, ◌^◌, ◌<◌, ◌≤◌}
 use mathlib.Core.Path.{◌≡◌, refl}
-use mathlib.Core.Bool.{Bool, true, false, ◌&&◌}
+use mathlib.Core.Bool.{Bool, true, false, ◌&&◌, ◌||◌}
 use mathlib.Core.List.{List, ◌++◌}
 use native.Mathlib.Omega.{arith}
 use lib.ListN.{length, get_or, length-append}
-use lib.Dec.{ltb, eqb}
-use borrow.Author.Tests.{lt-ltb, eq-eqb, eqb-true}
+use lib.Dec.{ltb, leb, eqb}
+use borrow.Author.Tests.{lt-ltb, le-leb, lt-leb, leb-false, eq-eqb, eqb-true}
 use Rattle.octets.specs.Length.{encode_length}
 use Rattle.octets.specs.Layout.{Layout, numeral, seq, put_all}
 use Rattle.octets.specs.declared.Form.{Form}
@@ -61,6 +61,22 @@ length-resource x = simp (length-append, length-octets)
 pub mode-both : (n : ℕ) → n ≡ 3 → mode_known n ≡ false
 unfolding mode_known
 mode-both n e = rw e
+
+-- below 7 it is the one that is none, and from 7 on there is none
+pub mode-is : (n : ℕ) → n < 7 → (n ≡ 3 → ⊥) → mode_known n ≡ true
+unfolding mode_known
+mode-is n h k = go (leb n 2) refl
+  where
+    go : (b : Bool) → leb n 2 ≡ b → (b || (leb 4 n && leb n 6)) ≡ true
+    go true e = refl
+    go false e =
+        let l : 4 ≤ n = omega (arith, leb-false n 2 e, k) in
+        let g : n ≤ 6 = omega arith in
+        rw (le-leb 4 n l, le-leb n 6 g)
+
+pub mode-high : (n : ℕ) → 7 ≤ n → mode_known n ≡ false
+unfolding mode_known
+mode-high n h = let j : 2 < n = omega arith in let g : 4 ≤ n = omega arith in rw (lt-leb n 2 j, le-leb 4 n g, lt-leb n 6 h)
 
 -- ---- which values fit
 
