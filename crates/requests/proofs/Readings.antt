@@ -1,7 +1,7 @@
 -- Reading a request: the form of what is read, each operation's body from the value in it, the table of operation types, and the whole request by its parts.
 use Prim.Native.Nat.{ℕ, zero, suc, ◌+◌, ◌<◌, ◌≤◌, zero-le}
-use mathlib.Core.Path.{◌≡◌, refl, sym, ap, ◌∙◌}
-use mathlib.Core.Logic.{◌⊎◌, ⊎_elim}
+use mathlib.Core.Path.{◌≡◌, refl, sym, ap, subst, ◌∙◌}
+use mathlib.Core.Logic.{◌⊎◌, inl, inr, ⊎_elim}
 use mathlib.Core.Bool.{Bool, true, false, ◌&&◌, cond}
 use mathlib.Core.List.{List, [], ◌∷◌}
 use native.Mathlib.Omega.{arith}
@@ -10,42 +10,102 @@ use lib.Dec.{leb, ltb}
 use Rattle.std.specs.Prelude.{Result, Ok, Err, IsErrAnd}
 use Rattle.std.proofs.lemmas.Result.{err_from_is_err_and}
 use borrow.Author.Tests.{lt-ltb, lt-leb, leb-true, ltb-true, ltb-false}
-use Rattle.octets.specs.Reading.{Read, bad, ok, and_then, at_end, Told, refused, fault_number}
+use Rattle.octets.specs.Reading.{Read, bad, ok, and_then, at_end, forget, Told, refused, fault_number}
 use Rattle.octets.specs.Number.{decode_number}
+use Rattle.octets.specs.Layout.{Layout, numeral, data', seq, via, entries}
 use Rattle.octets.specs.Frame.{receive}
-use Rattle.octets.specs.View.{to_end, Reads, HeadingOf, EnclosedOf}
+use Rattle.octets.specs.View.{to_end, Reads, DataAt, ListAt, HeadingOf, EnclosedOf}
 use Rattle.octets.specs.declared.Access.{Access}
 use Rattle.octets.specs.declared.Access.TheVariants as a
+use Rattle.octets.specs.declared.Entries.{Entries}
+use Rattle.octets.specs.declared.Span.{Span}
 use Rattle.octets.specs.declared.Fault.{Fault}
 use Rattle.octets.specs.declared.Fault.TheVariants.{Missing, Longer, High, Other}
 use Rattle.octets.specs.declared.Form.{Form}
 use Rattle.octets.specs.declared.Form.TheVariants as f
 use Rattle.octets.specs.declared.Heading.{Heading}
 use Rattle.octets.specs.declared.Taken.{Taken}
-use Rattle.octets.proofs.Places.{bad-ok, bad-same, ok-val, went, end-there, end_more, end_back}
+use Rattle.octets.proofs.Places.{bad-ok, bad-same, here_end, ok-val, went, end-there, end_more, end_back}
 use Rattle.octets.proofs.Frames.{receive_all, decode-headless, decode-unenclosed, decode-body}
-use Rattle.tags.specs.Entry.{form_of, lock, Keyed, key}
+use Rattle.tags.specs.Entry.{form_of, lock, Keyed, Held, key, memory}
+use Rattle.tags.specs.View.{KeyAt, MemoryAt}
+use Rattle.tags.specs.declared.Key.{Key}
+use Rattle.tags.specs.declared.Memory.{Memory}
+use Rattle.resources.specs.Resource.{Grant, mode, grant_of, grant_parts, allocation}
+use Rattle.resources.specs.View.{AllocationAt}
+use Rattle.resources.specs.declared.Allocation.{Allocation}
 use Rattle.requests.specs.Command.{Command, kind_of, known, form_at}
 use Rattle.requests.specs.Request.{Body, body_of, request_body}
-use Rattle.requests.specs.View.{operation_kind, operation_body, whole_in, OperationPlace, DecodedAs, DecodedAt, Understood}
+use Rattle.requests.specs.View.{operation_kind, operation_body, whole_in, ListEnds, OperationPlace, DecodedAs, DecodedAt, Understood}
 use Rattle.requests.specs.declared.Operation.{Operation}
 use Rattle.requests.proofs.Requests.{Listed, form-is, row, request-lawful}
 
 -- ---- what is read is of the form that was asked for
 
--- an access
-lock-form : (w : Form) (l : List ℕ) (x : Access) (r : List ℕ) → (lock w).get l ≡ ok x r → form_of x ≡ w
+-- whatever a layout reads is so
+abbrev Gives : {A : Type 0} → Layout A → (A → Type 0) → Type 0
+Gives {A} L P = (l : List ℕ) (a : A) (r : List ℕ) → L.get l ≡ ok a r → P a
+
+module _ {A B : Type 0} (L : Layout A) (M : Layout B) where
+  -- of one after the other: its first value is so if the first layout gives such, and its second if the second does
+  gives-first : (P : A → Type 0) → Gives L P → Gives (seq L M) (λ p. P p.0)
+  gives-first P h l p r e =
+      let v = went (L.get l) (λ x t. and_then (M.get t) (λ y u. ok (x, y) u)) p r e in
+      let z = went (M.get v.rest) (λ y u. ok (v.val, y) u) p r v.then in
+      subst P (ap (λ (q : A × B). q.0) (ok-val z.then)) (h l v.val v.rest v.first)
+
+  gives-second : (P : B → Type 0) → Gives M P → Gives (seq L M) (λ p. P p.1)
+  gives-second P h l p r e =
+      let v = went (L.get l) (λ x t. and_then (M.get t) (λ y u. ok (x, y) u)) p r e in
+      let z = went (M.get v.rest) (λ y u. ok (v.val, y) u) p r v.then in
+      subst P (ap (λ (q : A × B). q.1) (ok-val z.then)) (h v.rest z.val z.rest z.first)
+
+  -- of values of another type
+  gives-via : (f : A → B) (g : B → A) (P : B → Type 0) → Gives L (λ a. P (f a)) → Gives (via f g L) P
+  gives-via f g P h l b r e =
+      let v = went (L.get l) (λ x t. ok (f x) t) b r e in
+      subst P (ok-val v.then) (h l v.val v.rest v.first)
+
+-- an access, a tag with its access, memory data, an allocation
+lock-form : (w : Form) → Gives (lock w) (λ x. form_of x ≡ w)
 lock-form f.Plain l x r e = rw (← ok-val e)
 lock-form f.Password l x r e =
     let v = went (decode_number 8 l) (λ p t. ok (a.Password p) t) x r e in
     rw (← ok-val v.then)
 
--- a tag with its access
-key-form : (w : Form) (l : List ℕ) (k : Keyed) (r : List ℕ) → (key w).get l ≡ ok k r → form_of k.1 ≡ w
-key-form w l k r e =
-    let v = went (decode_number 8 l) (λ n t. and_then ((lock w).get t) (λ x u. ok (n, x) u)) k r e in
-    let z = went ((lock w).get v.rest) (λ x u. ok (v.val, x) u) k r v.then in
-    ap (λ (q : Keyed). form_of q.1) (sym (ok-val z.then)) ∙ lock-form w v.rest z.val z.rest z.first
+pub key-form : (w : Form) → Gives (key w) (λ k. form_of k.1 ≡ w)
+key-form w = gives-second (numeral 8) (lock w) (λ x. form_of x ≡ w) (lock-form w)
+
+pub memory-form : (w : Form) → Gives (memory w) (λ h. form_of (h).0.1 ≡ w)
+memory-form w = gives-first (key w) data' (λ k. form_of k.1 ≡ w) (key-form w)
+
+allocation-form : (w : Form) → Gives (allocation w) (λ g. form_of g.access ≡ w)
+allocation-form w =
+    gives-via (seq (numeral 8) (seq mode (seq (numeral 4) (seq (lock w) data')))) (allocation w) grant_of grant_parts (λ g. form_of g.access ≡ w)
+    (gives-second (numeral 8) (seq mode (seq (numeral 4) (seq (lock w) data'))) (λ p. form_of p.1.1.0 ≡ w)
+    (gives-second mode (seq (numeral 4) (seq (lock w) data')) (λ p. form_of p.1.0 ≡ w)
+    (gives-second (numeral 4) (seq (lock w) data') (λ p. form_of p.0 ≡ w)
+    (gives-first (lock w) data' (λ x. form_of x ≡ w) (lock-form w)))))
+
+-- and so is the access that read_key, read_memory and read_allocation answer
+module _ {w : Form} {s : List ℕ} (at : ℕ) where
+  pub key-access : {t : Taken Key} → KeyAt s at w (Ok t) → form_of t.value.access ≡ w
+  key-access e = key-form w (drop at s) _ _ (sym e.says)
+
+  pub memory-access : {t : Taken Memory} → MemoryAt s at w (Ok t) → form_of t.value.access ≡ w
+  memory-access e = memory-form w (drop at s) _ _ (sym e.says)
+
+  pub allocation-access : {t : Taken Allocation} → AllocationAt s at w (Ok t) → form_of t.value.access ≡ w
+  allocation-access e = allocation-form w (drop at s) _ _ (sym e.says)
+
+-- memory data is a tag and data behind it
+pub memory-parts : (w : Form) {s : List ℕ} (at : ℕ) {t : Taken Key} {d : Taken Span} → KeyAt s at w (Ok t)
+    → DataAt s t.next (Ok d)
+    → MemoryAt s at w (Ok (record {
+      value = record { access = t.value.access; tag = t.value.tag; span = d.value };
+      next = d.next;
+    }))
+memory-parts w at e f = record { says = rw (← e.says, ← f.says); place = f.place }
 
 -- ---- what is read to the last octet
 
@@ -122,6 +182,16 @@ module _ (x : Command) {w : Form} {s : List ℕ} {at : ℕ} (g : Keyed → Body)
       let n : form_of k.1 ≡ w = key-form w (drop at s) k [] ((end_back ((key w).get (drop at s)) k [] (sym e)).0) in
       record { says = rw (row, i) (under-ok g _ e); place = (j ∙ ap (kind_of x) n, p) }
 
+-- a list that was read to the last octet ends where the octets end
+pub list-ends : {A : Type 0} (L : Layout A) (s : List ℕ) (x : Entries) (next : ℕ) → length s ≤ next
+    → (x.start ≤ length s) × (next ≤ length s) × (forget (entries L x.count (drop x.start s)) ≡ ok tt (drop next s)) → ListEnds L s x
+list-ends L s x next h p = (p.0, p.2 ∙ ap (λ (l : List ℕ). ok tt l) (here_end s next h))
+
+-- the same, of the answer of a reader of lists
+pub list-whole : {A : Type 0} (L : Layout A) {s : List ℕ} (at : ℕ) {t : Taken Entries} → ListAt L s at (Ok t)
+    → length s ≤ t.next → ListEnds L s t.value
+list-whole L {s} at {t} e h = list-ends L s t.value t.next h e.place
+
 -- ---- the table of operation types
 
 -- a body of the table is read as the body of its operation
@@ -158,6 +228,10 @@ others-rest k m (suc n) l o = others-rest k m n l o.0
 others-past : (k m n : ℕ) (l : List ℕ) → Others k (from m n l) → m ≤ k → m + n ≤ k
 others-past k m zero l o h = omega arith
 others-past k m (suc n) l o h = omega (arith, others-past k m n l o.0 h, o.1)
+
+-- neither of two numbers
+pub neither : {k i j : ℕ} → ((k ≡ i) ⊎ (k ≡ j) → ⊥) → (k ≡ i → ⊥) × (k ≡ j → ⊥)
+neither n = (λ e. n (inl e), λ e. n (inr e))
 
 -- the operation types of the table
 abbrev pub types : List ℕ
