@@ -106,6 +106,10 @@ module _ (l : List ℕ) (x : ℕ) (t : List ℕ) (e : ok x t ≡ decode_number 1
   pub past-mark : (v : ℕ) → x ≡ 255 → from_mark v l ≡ from_status v t
   past-mark v z = rw (← e, eq-eqb 255 x (sym z))
 
+  -- any other octet there is not
+  pub mark-bad : (v : ℕ) → (x ≡ 255 → ⊥) → from_mark v l ≡ bad Other
+  mark-bad v z = rw (← e, ne_eqb 255 x (λ p. z (sym p)))
+
   -- any octet behind the mark is the status
   pub past-status : (v : ℕ) → from_status v l ≡ from_supplement v x t
   past-status v = rw (← e)

@@ -1,27 +1,29 @@
 -- Reading an answer: the body of one operation's answer, that nothing read has a password, the types that are in no row of the table, and the whole answer
 -- by its parts.
-use Prim.Native.Nat.{ℕ, ◌-◌, ◌<◌, ◌≤◌}
-use mathlib.Core.Path.{◌≡◌, refl, ap, ◌∙◌}
-use mathlib.Core.Bool.{Bool, true, false, ◌&&◌}
-use mathlib.Core.List.{List, []}
+use Prim.Native.Nat.{ℕ, zero, suc, ◌+◌, ◌-◌, ◌<◌, ◌≤◌}
+use mathlib.Core.Path.{◌≡◌, refl, sym, ap, ◌∙◌}
+use mathlib.Core.Bool.{Bool, true, false, ◌&&◌, ◌||◌}
+use mathlib.Core.List.{List, [], ◌∷◌}
 use native.Mathlib.Omega.{arith}
-use lib.ListN.{length, drop}
+use lib.ListN.{length, drop, get_or}
 use lib.Dec.{leb}
 use Rattle.std.specs.Prelude.{Result, Ok, Err, IsErrAnd, ◌⊎◌}
 use mathlib.Core.Logic.{⊎_elim}
-use borrow.Author.Tests.{lt-ltb, le-ltb, leb-true}
+use borrow.Author.Tests.{lt-ltb, le-ltb, lt-leb, leb-true, ne_eqb}
 use Rattle.octets.specs.Reading.{bad, ok, and_then, at_end}
-use Rattle.octets.specs.Frame.{decode}
+use Rattle.octets.specs.Frame.{heading, decode}
 use Rattle.octets.specs.View.{HeadingOf, EnclosedOf}
+use Rattle.octets.specs.declared.Access.{Access}
+use Rattle.octets.specs.declared.Access.TheVariants as a
 use Rattle.octets.specs.declared.Heading.{Heading}
 use Rattle.octets.specs.declared.Fault.{Fault}
 use Rattle.octets.specs.declared.Fault.TheVariants.{Other}
 use Rattle.octets.specs.declared.Form.{Form}
 use Rattle.octets.specs.declared.Form.TheVariants as f
-use Rattle.octets.proofs.Frames.{decode-headless, decode-unenclosed, decode-body}
-use Rattle.tags.specs.Entry.{Keyed, key}
+use Rattle.octets.proofs.Frames.{heading-short, decode-headless, decode-unenclosed, decode-body}
+use Rattle.tags.specs.Entry.{form_of, Keyed, Held, key, memory}
 use Rattle.requests.specs.Command.{Command, kind_of, form_at, known}
-use Rattle.requests.proofs.Readings.{under-bad, under-ok, handed, unknown, fault-told}
+use Rattle.requests.proofs.Readings.{key-form, memory-form, under-bad, under-ok, handed, unknown, fault-told}
 use Rattle.requests.proofs.Requests.{Listed, form-is}
 use Rattle.answers.specs.Answer.{Body, body_of, answer_kind, answer_body, accepted, is_denial, answer_read}
 use Rattle.answers.specs.View.{plain_tag, given_kind, given_body, GivenPlace, DecodedAs, DecodedAt, DenialOf, Understood}
@@ -49,6 +51,21 @@ module _ (x : Command) {w : Form} {s : List ℕ} {at : ℕ} (g : Keyed → Body)
       → given_body s y ≡ g (plain_tag tag) → given_kind y ≡ answer_kind x w
       → GivenPlace s y → DecodedAs x w s at (Ok y)
   tag-good e i k p = record { says = rw (of, i) (under-ok g _ e); place = (k, p) }
+
+-- ---- no answer carries a password
+
+-- an access of the plain form has no password
+plain-is : (x : Access) → form_of x ≡ f.Plain → x ≡ a.Plain
+plain-is a.Plain e = refl
+plain-is (a.Password p) e = let z : ◌≡◌ {A = ℕ} 0 1 = cc in absurd (omega arith)
+
+-- a plain tag that is read has no password
+pub key-plain : (l : List ℕ) (k : Keyed) (r : List ℕ) → ok k r ≡ (key f.Plain).get l → ok (k.0, a.Plain) r ≡ (key f.Plain).get l
+key-plain l k r e = rw (plain-is k.1 (key-form f.Plain l k r (sym e))) at e
+
+-- and plain memory data neither
+pub memory-plain : (l : List ℕ) (h : Held) (r : List ℕ) → ok h r ≡ (memory f.Plain).get l → ok ((h.0.0, a.Plain), h.1) r ≡ (memory f.Plain).get l
+memory-plain l h r e = rw (plain-is h.0.1 (memory-form f.Plain l h r (sym e))) at e
 
 -- ---- answers' types
 
@@ -82,6 +99,40 @@ decoded-unknown {kind} h g = record { says = rw (go (leb 128 kind) refl); place 
         unknown (kind - 128) (omega (arith, h k)) (λ e. omega (arith, g (omega arith)))
     go false t = refl
 
+-- B, and k is none of the m numbers from n on
+abbrev pub NoneOf : Type 0 → ℕ → ℕ → ℕ → Type 0
+NoneOf B k n zero = B
+NoneOf B k n (suc m) = NoneOf B k n m × (k ≡ n + m → ⊥)
+
+module _ (B : Type 0) (k n : ℕ) where
+  -- the first of both
+  the_rest : (m : ℕ) → NoneOf B k n m → B
+  the_rest zero p = p
+  the_rest (suc m) p = the_rest m p.0
+
+  -- if it is not below them, it is above them
+  above : (m : ℕ) → NoneOf B k n m → n ≤ k → n + m ≤ k
+  above zero p h = omega arith
+  above (suc m) p h = omega (arith, above m p.0 h, p.1)
+
+-- a type that is none of the thirteen is in no row of the table
+unknown-answer : (k : ℕ) → NoneOf (NoneOf (Unit {0}) k 128 7) k 193 6 → (leb 128 k && known (k - 128)) ≡ false
+unfolding known
+unknown-answer k p = first (leb 128 k) refl
+  where
+    last : (b : Bool) → leb 65 (k - 128) ≡ b → (b && leb (k - 128) 70) ≡ false
+    last true t = let h = above _ k 193 6 p (omega (arith, leb-true 65 (k - 128) t)) in lt-leb (k - 128) 70 (omega arith)
+    last false t = refl
+
+    first : (b : Bool) → leb 128 k ≡ b → (b && (leb (k - 128) 6 || (leb 65 (k - 128) && leb (k - 128) 70))) ≡ false
+    first true t = let h = above _ k 128 7 (the_rest _ k 193 6 p) (leb-true 128 k t) in rw (lt-leb (k - 128) 6 (omega arith)) (last (leb 65 (k - 128)) refl)
+    first false t = refl
+
+-- and no octets are its body
+pub unknown-body : (k : ℕ) (l : List ℕ) → NoneOf (NoneOf (Unit {0}) k 128 7) k 193 6 → (answer_body k).get l ≡ bad Other
+unfolding answer_body
+unknown-body k l p = rw (unknown-answer k p)
+
 -- ---- the whole answer
 
 -- over 2,048 octets are no answer
@@ -90,10 +141,26 @@ unfolding answer_read
 answer-long {s} h = record { says = rw (lt-ltb _ _ h); place = tt }
 
 -- with another second octet they are a message in its frame or nothing
+pub answer-accepted : (s : List ℕ) → length s ≤ 2048 → (get_or s 1 0 ≡ 255 → ⊥)
+    → answer_read s ≡ and_then (decode answer_body s) (λ m r. ok (accepted m) r)
+unfolding answer_read
+answer-accepted s h e = rw (le-ltb _ _ h, ne_eqb (get_or s 1 0) 255 e)
+
 accepted-is : (s : List ℕ) → length s ≤ 2048 → is_denial s ≡ false
     → answer_read s ≡ and_then (decode answer_body s) (λ m r. ok (accepted m) r)
 unfolding answer_read
 accepted-is s h e = rw (le-ltb _ _ h, e)
+
+-- fewer than two octets are no answer
+pub answer-none : (s : List ℕ) → length s < 2 → answer_read s ≡ bad Other
+answer-none s h =
+    let e : heading s ≡ bad Other = heading-short s (omega arith) in
+    rw (answer-accepted s (omega arith) (second s h), decode-headless answer_body answer-lawful s Other (sym e))
+  where
+    second : (s : List ℕ) → length s < 2 → get_or s 1 0 ≡ 255 → ⊥
+    second [] h e = omega arith
+    second (v ∷ []) h e = omega arith
+    second (v ∷ c ∷ l) h e = omega arith
 
 module _ {s : List ℕ} (h : length s ≤ 2048) where
   -- with 255 second they are a denial or nothing
