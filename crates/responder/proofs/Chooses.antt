@@ -1,6 +1,6 @@
 -- What a bulk read chooses, entry by entry: an entry is passed over where a single command would be denied, or where the body would have more than 2,042 octets.
 use Prim.Native.Nat.{ℕ, ◌+◌, ◌<◌, ◌≤◌}
-use mathlib.Core.Path.{◌≡◌, sym, ap, ◌∙◌}
+use mathlib.Core.Path.{◌≡◌, refl, sym, ap, ◌∙◌}
 use mathlib.Core.Bool.{true}
 use mathlib.Core.List.{List, [], ◌∷◌, ◌++◌}
 use native.Mathlib.Omega.{arith}
@@ -30,7 +30,7 @@ use Rattle.store.specs.Model.{State, Shows}
 use Rattle.store.specs.Steps.{content, read_step}
 use Rattle.store.specs.Answers.{ReadOf}
 use Rattle.admission.specs.declared.Denial.{Denial}
-use Rattle.std.specs.Prelude.{Result, Ok}
+use Rattle.std.specs.Prelude.{Result, Ok, Err}
 use Rattle.responder.specs.Respond.{named, given, all_reads, bulk_read_done}
 use Rattle.responder.specs.Entry.{Sent, sent_of, Sends, Gives, picked, Picked, Chooses}
 use Rattle.responder.specs.declared.Chosen.{Chosen}
@@ -69,6 +69,10 @@ module _ (hs : List Held) (x : ℕ) (xs : List ℕ) where
 picked-length : (c : Chosen) (pool : List ℕ) → c.count ≤ length c.tags → length (picked c pool) ≡ c.count
 picked-length c pool h = length-listed (held_at f.Plain (take c.count c.tags) [] (take c.count c.starts)
     (take c.count c.lengths) pool) (length (take c.count c.tags)) ∙ length-take-le c.count c.tags h
+
+-- a single command would be denied
+pub chooses-denied : (x : ℕ) (c : Chosen) → c.size ≤ 2041 → (d : Denial) → Chooses (Err d) x c c
+chooses-denied x c small d = record { few = omega arith; small = small; grown = λ pool l p k. (k, refl) }
 
 module _ (x : ℕ) (c : Chosen) (small : c.size ≤ 2041) (p : Span) (t : length c.tags ≡ 16) (few : c.count < 16) where
   -- there is no room
@@ -122,6 +126,11 @@ pub record Going (u : State) (p : Port) (pool : List ℕ) (goal : List Held) (le
   where
     pub holds : Picked c pool
     pub rest : all_reads u p (picked c pool) left ≡ goal
+
+-- at first what is left is the whole list
+pub going-first : (u : State) (p : Port) (pool : List ℕ) (all left : List Keyed) (c : Chosen) → left ≡ all
+    → Picked c pool → Going u p pool (all_reads u p (picked c pool) all) left c
+going-first u p pool all left c e k = record { holds = k; rest = rw e }
 
 module _ (u : State) (p : Port) (pool : List ℕ) (goal : List Held) (left : List Keyed) (c : Chosen) where
   -- an entry more

@@ -1,6 +1,6 @@
 -- Arrays side by side as they grow by an entry: the first entries, and behind them one more. Used for what is told of
 -- tags, for what a bulk read chooses and for the names that a bulk write notes.
-use Prim.Native.Nat.{ℕ, zero, suc, ◌+◌, ◌<◌, ◌≤◌}
+use Prim.Native.Nat.{ℕ, zero, suc, ◌+◌, ◌-◌, ◌<◌, ◌≤◌}
 use mathlib.Core.Path.{◌≡◌, refl}
 use mathlib.Core.Bool.{true}
 use mathlib.Core.List.{List, [], ◌∷◌, ◌++◌}
@@ -16,7 +16,7 @@ use Rattle.octets.specs.declared.Span.{Span}
 use Rattle.octets.specs.View.{within}
 use Rattle.octets.proofs.Places.{both-are}
 use Rattle.octets.proofs.Lists.{every-is, every-at}
-use Rattle.lists.specs.Handed.{key_at, held_at, inside_at}
+use Rattle.lists.specs.Handed.{key_at, keys_of, held_at, inside_at}
 use Rattle.resources.specs.Resource.{resource_at}
 use Rattle.resources.specs.declared.Resource.{Resource}
 use Rattle.responder.specs.Entry.{names_in, resources_in, picked}
@@ -43,6 +43,10 @@ module _ (l : List ℕ) (k x : ℕ) (h : k < length l) where
   pub grown-last : get_or (take (suc k) (set l k x)) k 0 ≡ x
   grown-last = rw (take-suc-set l k x h) (get_or_at (take k l) x [] 0 k first-length)
 
+-- the part of an array that has so many entries
+pub part_length : (l : List ℕ) (k : ℕ) → length l ≡ 16 → k ≤ 16 → length (take (k - 0) l) ≡ k
+part_length l k e h = let q : k - 0 ≡ k = omega arith in rw q (length-take-le k l (omega arith))
+
 -- ---- lists by their places
 
 -- lists that agree at every place
@@ -55,6 +59,14 @@ listed_more : {A : Type 0} (f g : ℕ → A) (k : ℕ) (a : A) → ((i : ℕ) �
 listed_more f g k a h e = rw (listed_same f g k h, e)
 
 -- ---- the names of tags
+
+pub keys-more : (k : ℕ) (names : List ℕ) (x : ℕ) → k < length names
+    → keys_of f.Plain (take (k + 1) (set names k x)) [] ≡ keys_of f.Plain (take k names) [] ++ (x, Plain) ∷ []
+keys-more k names x h =
+    rw (add-one k, grown-length names k x h, length-take-le k names (omega arith))
+    (listed_more (key_at f.Plain (take (suc k) (set names k x)) []) (key_at f.Plain (take k names) []) k _
+    (λ i j. rw (grown-before names k x h i j))
+    (rw (grown-last names k x h)))
 
 pub names-more : (c : Names) (x : ℕ) → c.count < length c.tags
     → names_in (record { tags = set c.tags c.count x; count = c.count + 1 }) ≡ names_in c ++ (x, Plain) ∷ []

@@ -23,7 +23,7 @@ use Rattle.requests.proofs.Readings.{fault-told}
 use Rattle.admission.specs.Denial as code
 use Rattle.admission.specs.declared.Denial.{Denial}
 use Rattle.admission.specs.declared.Head.{Head}
-use Rattle.store.specs.Model.{State, Shows}
+use Rattle.store.specs.Model.{State, Shows, Sound}
 use Rattle.responder.specs.Entry.{Sent, word_of, count_of, Sends, Serves, Denies, Responded}
 use Rattle.responder.specs.Respond.{Done, denial, deny, entries_of, act, served, number, none, first_lines, handled, respond}
 use Rattle.responder.specs.declared.Reply.{Reply}
@@ -45,6 +45,14 @@ count-is s (o.Read access tag) q h = refl
 count-is s (o.Write access tag span) q h = refl
 count-is s (o.BulkRead w list) q h = (keys-whole w s list q h).1
 count-is s (o.BulkWrite w list) q h = (helds-whole w s list q h).1
+
+-- the limit of a list in a sound unit
+pub sound-list : (h : Head) (table pool : List ℕ) → Sound h table pool → h.limits.list ≡ 16
+sound-list h table pool s = ap (λ (g : Head). g.limits.list) s.shown.head ∙ s.shown.valid.shared.list
+
+-- and of a message
+pub sound-message : (h : Head) (table pool : List ℕ) → Sound h table pool → h.limits.message ≡ 2048
+sound-message h table pool s = ap (λ (g : Head). g.limits.message) s.shown.head ∙ s.shown.valid.shared.message
 
 -- a denial that is not written yet
 pub denies : (u : State) (h : Head) (table pool old : List ℕ) (e : Denial) → Shows u h table pool

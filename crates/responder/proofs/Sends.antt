@@ -6,7 +6,7 @@ use mathlib.Core.List.{List, [], ◌∷◌}
 use native.Mathlib.Omega.{arith}
 use Rattle.std.proofs.Common.{rules}
 use lib.ListN.{length, take}
-use borrow.Author.Tests.{le-ltb}
+use borrow.Author.Tests.{le-ltb, eq-eqb, ne_eqb}
 use Rattle.octets.specs.Area.{Written, Outcome, done, outcome, written, described, Does}
 use Rattle.answers.specs.Answer.{Answer, answer_octets, answer_writable, answer_sent, accepted, answer}
 use Rattle.responder.specs.Entry.{Sent, sent_of, Sends, Serves, Denies}
@@ -51,6 +51,13 @@ pub described-so : (b : Bool) (o : Outcome × List ℕ) (old : List ℕ) {new : 
 described-so b o old e d = rw e at d
 
 -- 4 carries the unit's version octet, and no other number carries anything
+pub supplement-four : (version n : ℕ) → n ≡ 4 → version * 16 ∷ [] ≡ supplement_of version n
+supplement-four version n e = rw (eq-eqb n 4 e)
+
+pub supplement-none : (version n : ℕ) → (n ≡ 4 → ⊥) → [] ≡ supplement_of version n
+supplement-none version n e = rw (ne_eqb n 4 e)
+
+-- so does the denial of that number, and no other denial
 supplement-by : (version : ℕ) (d : Denial) → take (bool_byte (sameb the_type d Version))
     (version * 16 ∷ []) ≡ supplement_of version (number d)
 supplement-by version d = search rules

@@ -20,9 +20,9 @@ use Rattle.admission.specs.declared.Denial.{Denial}
 use Rattle.std.specs.Prelude.{Ok, Err}
 use Rattle.store.specs.Answers.{ReadOf}
 use Rattle.store.specs.Model.{State, Shows}
-use Rattle.store.specs.Steps.{content, read_step}
+use Rattle.store.specs.Steps.{Content, content, denied, read_step}
 use Rattle.responder.specs.Entry.{Sent, sent_of, Serves, Denies}
-use Rattle.responder.specs.Respond.{named, read_done}
+use Rattle.responder.specs.Respond.{named, shown, read_done}
 use Rattle.responder.proofs.Sends.{sends, version-is}
 use Rattle.responder.proofs.Writable.{read-writable, writable-short}
 
@@ -54,3 +54,12 @@ module _ (u : State) (g : Head) (table pool : List ℕ) (s : Shows u g table poo
       let c : Answer = accepted (answer g.version w (b.read (named x, xs))) in
       let m = read-writable g.version w x v l xs few in
       rw q (record { sends = rw (version-is s) at (sends c m (writable-short c m) k (rw (ef, en) at y) f); left = s })
+
+-- a read leaves the unit as it was
+pub read_left : (u : State) (p : Port) (w : Form) (x : ℕ) (a : Access) → u ≡ (read_done u p w (x, a)).unit
+unfolding read_done
+read_left u p w x a = go (read_step u x p a)
+  where
+    go : (c : Content) → u ≡ (shown u w x c).unit
+    go (content xs) = refl
+    go (denied n) = refl

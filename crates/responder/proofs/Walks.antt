@@ -21,6 +21,19 @@ cons-taken : {A : Type 0} (a : A) (p : Read (List A)) → forget (and_then p (λ
 cons-taken a (bad f) e = absurd (bad-ok e)
 cons-taken a (ok es t) e = refl
 
+-- before the entry i of n, the octets l being left
+module _ {A : Type 0} (L : Layout A) (n i : ℕ) (l : List ℕ) (h : i < n) (g : forget (entries L (n - i) l) ≡ ok tt [])
+    {a : A} {r : List ℕ} (e : ok a r ≡ L.get l) where
+  -- behind the next entry the list still reads to its end
+  pub still-good : forget (entries L (n - (i + 1)) r) ≡ ok tt []
+  still-good = sym (walk-on L n i l h a r e) ∙ g
+
+  -- the entries that are left are it and those behind it
+  pub taken-on : taken (entries L (n - i) l) ≡ a ∷ taken (entries L (n - (i + 1)) r)
+  taken-on =
+      let q : n - i ≡ suc (n - (i + 1)) = omega arith in
+      rw (q, ← e) (cons-taken a (entries L (n - (i + 1)) r) (rw (q, ← e) at g))
+
 module _ {A : Type 0} (L : Layout A) (s : List ℕ) (x : Entries) where
   -- i entries were read, up to a place: from there the others read to the end
   pub record Walk (at i : ℕ) : Type 0 where
@@ -51,14 +64,11 @@ module _ {A : Type 0} (L : Layout A) (s : List ℕ) (x : Entries) where
       module _ {a : A} (next : ℕ) (e : ok a (drop next s) ≡ L.get (drop at s)) where
         -- behind it the list still reads to its end
         pub walk-next : next ≤ length s → Walk next (i + 1)
-        walk-next n = record { place = n; good = sym (walk-on L x.count i (drop at s) h a (drop next s) e) ∙ w.good }
+        walk-next n = record { place = n; good = still-good L x.count i (drop at s) h w.good e }
 
         -- the entries that were left are it and those behind it
         pub left-on : left at i ≡ a ∷ left next (i + 1)
-        left-on =
-            let g = w.good in
-            let q : x.count - i ≡ suc (x.count - (i + 1)) = omega arith in
-            rw (q, ← e) (cons-taken a (entries L (x.count - (i + 1)) (drop next s)) (rw (q, ← e) at g))
+        left-on = taken-on L x.count i (drop at s) h w.good e
 
 -- the whole list: each entry fits its fields, and there are as many as it says
 pub list-whole : {A : Type 0} (L : Layout A) → Lawful L → (s : List ℕ) (x : Entries) → Octets s → ListEnds L s x

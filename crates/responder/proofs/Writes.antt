@@ -28,6 +28,11 @@ pub record Rest (p : Port) (goal : Writes) (left : List Held) (names : List Keye
   pub shown : Shows unit h table pool
   pub leads : all_writes p (record { names = names; unit = unit }) left ≡ goal
 
+-- before the first turn
+pub begin : (p : Port) (u : State) (all left : List Held) (names : List Keyed) (h : Head) (table pool : List ℕ)
+    → Shows u h table pool → left ≡ all → Rest p (all_writes p (record { names = names; unit = u }) all) left names h table pool
+begin p u all left names h table pool s e = rw e (record { unit = u; shown = s; leads = refl })
+
 module _ (p : Port) (h : Head) (table pool table' pool' : List ℕ) (x : ℕ) (a : Access) (xs : List ℕ) (v : Verdict)
     (w : (u : State) → Shows u h table pool → Did (write_step u x xs p a) v h table' pool') where
   -- one entry more
