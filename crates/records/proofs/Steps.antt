@@ -5,7 +5,7 @@ use mathlib.Core.Bool.{Bool}
 use mathlib.Core.List.{List}
 use native.Mathlib.Omega.{arith}
 use native.Mathlib.Numerals.{add-one}
-use lib.ListN.{length, take, drop, length-append}
+use lib.ListN.{length, take, drop, length-append, length-take}
 use lib.Seq.{take_at}
 use borrow.Author.Tests.{lt-ltb, le-ltb}
 use Rattle.octets.specs.Area.{Wrote}
@@ -47,6 +47,10 @@ spoken-area (replied a) (Some m) old area w h =
     let z : m ≡ length (answer_octets a) = cc in
     ap (take m) h ∙ take_at (answer_octets a) (drop (length (answer_octets a)) old) m (sym z)
 spoken-area (replied a) None old area w h = cc
+
+-- an answer in an area of 2,048 octets, and its line, have room
+pub length_part : (k : ℕ) (area : List ℕ) → length area ≡ 2048 → length (take k area) ≤ 2048
+length_part k area h = rw length-take (omega arith)
 
 module _ (u : State) (n : ℕ) (last : Bool) (s old : List ℕ) (at : ℕ) where
   -- the line of an answer is written
