@@ -1,11 +1,12 @@
 -- Slices and the unit that they stand for: the lines that look at no unit, a start, and what respond and fit leave.
-use Prim.Native.Nat.{ℕ}
+use Prim.Native.Nat.{ℕ, ◌<◌}
 use mathlib.Core.Path.{◌≡◌, refl, sym, ap, ◌∙◌}
 use mathlib.Core.Bool.{Bool, true, false, ◌&&◌, cond}
 use mathlib.Core.List.{List, []}
+use native.Mathlib.Omega.{arith}
 use lib.IntN.{ℤ}
 use lib.Dec.{ltb, eqb}
-use lib.ListN.{length, replicate}
+use lib.ListN.{length, get_or, replicate}
 use borrow.Author.Tests.{eqb-true, ltb-false}
 use Rattle.octets.specs.Area.{done, refused}
 use Rattle.octets.specs.Number.{bare}
@@ -132,6 +133,12 @@ module _ (v : ℕ) (a p : Bool) (old : Slices) (z : ℤ) where
 -- ---- a unit that is kept
 
 module _ (u : State) (x : Slices) (k : Holds u x) where
+  pub head-five : length x.head ≡ 5
+  head-five = ap length k.words
+
+  pub head-low : get_or x.head 0 0 < 256
+  head-low = let e : get_or x.head 0 0 ≡ u.version = ap (λ (l : List ℕ). get_or l 0 0) k.words in omega (arith, k.shown.valid.low)
+
   pub held-sound : (h : Head) → h ≡ head_of u → Sound h x.table x.memory
   held-sound h e = record { unit = u; shown = rw e k.shown }
 
