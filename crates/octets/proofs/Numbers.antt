@@ -4,7 +4,7 @@ use mathlib.Core.Path.{◌≡◌, refl, sym, ap, ◌∙◌}
 use mathlib.Core.Bool.{Bool, true, false, cond}
 use mathlib.Core.List.{List, [], ◌∷◌, ◌++◌, append_assoc, append-nil, reverse, reverse-cons, reverse-reverse}
 use native.Mathlib.Omega.{arith}
-use native.Mathlib.Nat.{not-suc-le-zero, le_of_suc-le-suc, pow-suc, mul_assoc, mul_comm, add-zero, mul-add-div_right, lt_of_lt_of_le, mod-eq_of_lt}
+use native.Mathlib.Nat.{not-suc-le-zero, le_of_suc-le-suc, pow-suc, mul_assoc, mul_comm, add-zero, mul-add-div_right, lt_of_lt_of_le, mod-eq_of_lt, div-div-eq-div-mul}
 use native.Mathlib.Numerals.{add-one}
 use lib.ListN.{replicate, length, get_or, set, take, drop, length-reverse, length-append, length-take, length-drop, take-append-drop, drop_of_length-le}
 use Rattle.std.proofs.lemmas.List.{take-replicate}
@@ -146,6 +146,25 @@ number-worth s h =
 abbrev pub turn : ℕ → ℕ → ℕ
 turn n x = number (reverse (octets n x))
 
+-- one octet more, as a loop turns it
+pub turn_step : (n x : ℕ) → turn (suc n) x ≡ turn n x * 256 + x / 256 ^ n % 256
+unfolding octets
+turn_step n x = rw (reverse-cons, number-snoc)
+
+-- it is below 256 to their count
+turn-lt : (n x : ℕ) → turn n x < 256 ^ n
+unfolding octets number
+turn-lt zero x = omega arith
+turn-lt (suc n) x = rw (turn_step n x, pow256-suc n) (omega (arith, turn-lt n x))
+
+-- seven octets or fewer leave room for one more
+pub turn_small : (n x : ℕ) → n ≤ 7 → turn n x < 256 ^ 7
+turn_small n x h = lt_of_lt_of_le (turn-lt n x) (pow256-mono n 7 h)
+
+-- what is left of a number behind one octet more
+pub rest-step : (n x : ℕ) → x / 256 ^ n / 256 ≡ x / 256 ^ suc n
+rest-step n x = rw (pow256-suc n) (div-div-eq-div-mul x (256 ^ n) 256)
+
 -- octets in the other order are octets
 octets-snoc : (l : List ℕ) (b : ℕ) → Octets l → b < 256 → Octets (l ++ (b ∷ []))
 octets-snoc [] b o h zero = h
@@ -184,6 +203,17 @@ number-eight s at h =
       number-before s (at + 7) (at + 8) 0 (omega arith) (omega arith),
     )
     (omega arith)
+
+-- the last octet of a turned number is the first that is not stored yet, and the others are those behind it
+pub turn_last : (n x i : ℕ) → i < n → turn (n - i) x % 256 ≡ get_or (octets n x) i 0
+turn_last n x i h =
+    let e : n - i ≡ suc (n - 1 - i) = omega arith in
+    rw (octets-at n x i h, e, turn_step (n - 1 - i) x) (omega arith)
+
+pub turn-rest : (n x i : ℕ) → i < n → turn (n - i) x / 256 ≡ turn (n - (i + 1)) x
+turn-rest n x i h =
+    let e : n - i ≡ suc (n - (i + 1)) = omega arith in
+    rw (e, turn_step (n - (i + 1)) x) (omega arith)
 
 -- ---- a run of stores
 
