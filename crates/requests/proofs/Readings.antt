@@ -15,7 +15,6 @@ use Rattle.octets.specs.Number.{decode_number}
 use Rattle.octets.specs.Layout.{Layout, numeral, data', seq, via, entries}
 use Rattle.octets.specs.Frame.{receive}
 use Rattle.octets.specs.View.{to_end, Reads, DataAt, ListAt, HeadingOf, EnclosedOf}
-use Rattle.octets.specs.declared.Access.{Access}
 use Rattle.octets.specs.declared.Access.TheVariants as a
 use Rattle.octets.specs.declared.Entries.{Entries}
 use Rattle.octets.specs.declared.Span.{Span}
@@ -27,11 +26,11 @@ use Rattle.octets.specs.declared.Heading.{Heading}
 use Rattle.octets.specs.declared.Taken.{Taken}
 use Rattle.octets.proofs.Places.{bad-ok, bad-same, here_end, ok-val, went, end-there, end_more, end_back}
 use Rattle.octets.proofs.Frames.{receive_all, decode-headless, decode-unenclosed, decode-body}
-use Rattle.tags.specs.Entry.{form_of, lock, Keyed, Held, key, memory}
+use Rattle.tags.specs.Entry.{form_of, lock, Keyed, key, memory}
 use Rattle.tags.specs.View.{KeyAt, MemoryAt}
 use Rattle.tags.specs.declared.Key.{Key}
 use Rattle.tags.specs.declared.Memory.{Memory}
-use Rattle.resources.specs.Resource.{Grant, mode, grant_of, grant_parts, allocation}
+use Rattle.resources.specs.Resource.{mode, grant_of, grant_parts, allocation}
 use Rattle.resources.specs.View.{AllocationAt}
 use Rattle.resources.specs.declared.Allocation.{Allocation}
 use Rattle.requests.specs.Command.{Command, kind_of, known, form_at}
