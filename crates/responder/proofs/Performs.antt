@@ -112,6 +112,36 @@ module _ (u : State) (p : Port) (s : List ℕ) where
 
 -- ---- the entry
 
+module _ (u : State) (h : Head) (e : h.limits.message ≡ u.limits.message) (p : Port) (s old : List ℕ) (y : Reply)
+    (new table pool : List ℕ) where
+  -- an area that is long enough
+  replied-by : h.limits.message ≤ length old → Serves (handled u p s) y old new table pool
+      → Responded (respond u p s (length old)) y old new table pool
+  unfolding respond
+  replied-by l d = rw (le-ltb (length old) u.limits.message (omega arith))
+      (record { says = ap word_of d.sends.says; area = d.sends.area; left = d.left })
+
+  -- a line before the body denies it
+  pub line-so : (n : ℕ) → h.limits.message ≤ length old → number n ≡ first_lines u s → Serves (deny u n) y old new table pool
+      → Responded (respond u p s (length old)) y old new table pool
+  line-so n l q d = replied-by l (rw (lined u p s n q) d)
+
+  -- it does not decode
+  pub bad-so : (fault : Fault) → h.limits.message ≤ length old → none ≡ first_lines u s → Understood s (Err fault)
+      → Serves (deny u 16) y old new table pool
+      → Responded (respond u p s (length old)) y old new table pool
+  bad-so fault l q g d = replied-by l (rw (undecoded u p s fault q g) d)
+
+  -- it decodes
+  pub good-so : (r : Request) → h.limits.message ≤ length old → none ≡ first_lines u s → Understood s (Ok r)
+      → Serves (served u p (message (record {
+        version = r.version;
+        kind = operation_kind r.operation;
+        body = operation_body s r.operation;
+      }))) y old new table pool
+      → Responded (respond u p s (length old)) y old new table pool
+  good-so r l q g d = replied-by l (rw (decoded u p s r q g) d)
+
 module _ (u : State) (h : Head) (table₀ pool₀ : List ℕ) (x : Shows u h table₀ pool₀) (p : Port) (s old : List ℕ)
     (y : Reply) (new table pool : List ℕ) where
   message-limit : h.limits.message ≡ u.limits.message
@@ -127,6 +157,4 @@ module _ (u : State) (h : Head) (table₀ pool₀ : List ℕ) (x : Shows u h tab
   -- any other
   pub replied-so : h.limits.message ≤ length old → Serves (handled u p s) y old new table pool
       → Responded (respond u p s (length old)) y old new table pool
-  unfolding respond
-  replied-so l d = rw (le-ltb (length old) u.limits.message (omega (arith, message-limit)))
-      (record { says = ap word_of d.sends.says; area = d.sends.area; left = d.left })
+  replied-so l d = replied-by u h message-limit p s old y new table pool l d
