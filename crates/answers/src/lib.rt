@@ -16,7 +16,7 @@ ghost use Rattle.answers.specs.Answer.{is_denial, answer, accepted, answer_sent}
 ghost use Rattle.answers.specs.Answer.{resource_information_sent, bulk_read_sent};
 ghost use Rattle.answers.specs.View.{plain_tag, DecodedAs, DecodedAt, DenialOf, Understood};
 
-use octets::{Access, Entries, Fault, Form, Heading, Span, Unwritten, Written};
+use octets::{Access, Entries, Fault, Form, Heading, Span, Taken, Unwritten, Width, Written};
 use requests::form_number;
 use resources::Room;
 
@@ -104,19 +104,20 @@ fn read_denial(s: &[u8]) -> Result<Reply, Fault>
     requires { is_denial s.now ≡ true }
     ensures { DenialOf s.now result }
 {
-    let [first, _, status, ..] = *s else {
+    let [first, _, ..] = *s else {
         return Err(Fault::Other);
     };
     if octets::fill_of(first) != 0 {
         return Err(Fault::Other);
     }
-    let supplement = octets::read_data(s, 3)?.to_end(s)?;
+    let Taken { value, next } = octets::read_number(s, 2, Width::One)?;
+    let supplement = octets::read_data(s, next)?.to_end(s)?;
     if 127 < supplement.len {
         return Err(Fault::Other);
     }
     Ok(Reply::Denied {
         version: octets::version_of(first),
-        status,
+        status: value as u8,
         supplement,
     })
 }
