@@ -157,6 +157,14 @@ octet-there s at h =
 pub denial-fill : (s : List ℕ) → 0 < length s → (get_or s 0 0 % 16 ≡ 0 → ⊥) → denial.get s ≡ bad Other
 denial-fill s h z = fill-bad s (get_or s 0 0) (drop 1 s) (octet-there s 0 h) z
 
+-- behind one whose fill bits are zero, and behind 255 and the status, stands the supplement
+pub denial-on : (s : List ℕ) → 3 ≤ length s → get_or s 0 0 % 16 ≡ 0 → is_denial s ≡ true
+    → denial.get s ≡ from_supplement (get_or s 0 0 / 16) (get_or s 2 0) (drop 3 s)
+denial-on s h z m =
+    past-version s (get_or s 0 0) (drop 1 s) (octet-there s 0 (omega arith)) z
+    ∙ past-mark (drop 1 s) (get_or s 1 0) (drop 2 s) (octet-there s 1 (omega arith)) _ (eqb-true _ _ m)
+    ∙ past-status (drop 2 s) (get_or s 2 0) (drop 3 s) (octet-there s 2 (omega arith)) _
+
 -- octets with the mark are two or more
 pub denial-two : (s : List ℕ) → is_denial s ≡ true → 2 ≤ length s
 denial-two [] m = absurd (false-true m)
@@ -171,14 +179,30 @@ denial-mark s z m =
     past-version s (get_or s 0 0) (drop 1 s) (octet-there s 0 (omega (arith, h))) z
     ∙ past-mark (drop 1 s) (get_or s 1 0) (drop 2 s) (octet-there s 1 (omega (arith, h))) _ (eqb-true _ _ m)
 
--- and behind the status the supplement
-pub denial-on : (s : List ℕ) {t : Taken ℕ} → get_or s 0 0 % 16 ≡ 0 → is_denial s ≡ true → NumberAt s 2 One (Ok t)
+-- and behind a status that was read the supplement
+pub denial-read : (s : List ℕ) {t : Taken ℕ} → get_or s 0 0 % 16 ≡ 0 → is_denial s ≡ true → NumberAt s 2 One (Ok t)
     → denial.get s ≡ from_supplement (get_or s 0 0 / 16) t.value (drop t.next s)
-denial-on s {t} z m e = denial-mark s z m ∙ past-status (drop 2 s) t.value (drop t.next s) e.says _
+denial-read s {t} z m e = denial-mark s z m ∙ past-status (drop 2 s) t.value (drop t.next s) e.says _
 
 -- what reads as no denial is told so
 pub denial-refused : {s : List ℕ} {f : Fault} → at_end (denial.get s) ≡ bad f → DenialOf s (Err f)
 denial-refused {s} {f} e = record { says = rw e (fault-told f); place = tt }
+
+-- two octets are no denial
+pub denial-cut : (s : List ℕ) → length s < 3 → is_denial s ≡ true → denial.get s ≡ bad Other
+unfolding decode_number
+denial-cut [] h m = absurd (false-true m)
+denial-cut (v ∷ []) h m = absurd (false-true m)
+denial-cut (v ∷ x ∷ []) h m = go (eqb (v % 16) 0) refl
+  where
+    go : (b : Bool) → eqb (v % 16) 0 ≡ b → denial.get (v ∷ x ∷ []) ≡ bad Other
+    go true t =
+        past-version (v ∷ x ∷ []) v (x ∷ []) (octet-there (v ∷ x ∷ []) 0 (omega arith)) (eqb-true _ _ t)
+        ∙ past-mark (x ∷ []) x [] (octet-there (v ∷ x ∷ []) 1 (omega arith)) _ (eqb-true _ _ m)
+    go false t =
+        fill-bad (v ∷ x ∷ []) v (x ∷ []) (octet-there (v ∷ x ∷ []) 0 (omega arith))
+        (λ q. false-true (sym t ∙ eq-eqb (v % 16) 0 q))
+denial-cut (v ∷ x ∷ y ∷ l) h m = absurd (omega arith)
 
 -- ---- which denials may be written
 

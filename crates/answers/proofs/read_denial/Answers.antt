@@ -5,7 +5,7 @@ use lib.ListN.{get_or}
 use Rattle.octets.specs.declared.Span.{Span}
 use Rattle.octets.proofs.Places.{end-there}
 use Rattle.requests.proofs.Readings.{handed, at-end, not-end}
-use Rattle.answers.proofs.Denials.{denial-two, denial-fill, denial-mark, denial-on, denial-refused, past-supplement, supplement-bad, supplement-behind}
+use Rattle.answers.proofs.Denials.{denial-two, denial-fill, denial-mark, denial-read, denial-refused, past-supplement, supplement-bad, supplement-behind}
 use Rattle.answers.proofs.read_denial.Goals as goal
 
 pub returns-in_default : goal.returns-in_default
@@ -26,21 +26,21 @@ returns-in_err-read_data c =
     let e = c.in_err-read_data.ensures in
     rw (handed c.from_residual-in_err-read_data.ensures.1)
     (denial-refused
-    (rw (denial-on c.args.s.now (sym c.fill_of.ensures ∙ c.if-fill_of-ne0.false) c.requires c.in_ok-value.ensures, ← e.says)))
+    (rw (denial-read c.args.s.now (sym c.fill_of.ensures ∙ c.if-fill_of-ne0.false) c.requires c.in_ok-value.ensures, ← e.says)))
 
 pub returns-in_err-supplement : goal.returns-in_err-supplement
 returns-in_err-supplement c =
     let b = not-end c.in_ok-read_data.ensures c.in_err-supplement.ensures in
     rw (handed c.from_residual-in_err-supplement.ensures.1, b.0)
     (denial-refused
-    (rw (denial-on c.args.s.now (sym c.fill_of.ensures ∙ c.if-fill_of-ne0.false) c.requires c.in_ok-value.ensures)
+    (rw (denial-read c.args.s.now (sym c.fill_of.ensures ∙ c.if-fill_of-ne0.false) c.requires c.in_ok-value.ensures)
     (supplement-behind _ _ _ c.in_ok-read_data.ensures b.1)))
 
 pub returns-then-supplement-gt127 : goal.returns-then-supplement-gt127
 returns-then-supplement-gt127 c =
     let b = at-end c.in_ok-read_data.ensures c.in_ok-supplement.ensures in
     denial-refused (rw (
-      denial-on c.args.s.now (sym c.fill_of.ensures ∙ c.if-fill_of-ne0.false) c.requires c.in_ok-value.ensures,
+      denial-read c.args.s.now (sym c.fill_of.ensures ∙ c.if-fill_of-ne0.false) c.requires c.in_ok-value.ensures,
       supplement-bad (get_or c.args.s.now 0 0 / 16) _ _ c.in_ok-read_data.ensures
           (omega (arith, ap (λ (p : Span). p.len) b.0)),
     ))
@@ -53,7 +53,7 @@ returns c =
     record {
       says = rw (
         b.0,
-        denial-on c.args.s.now (sym c.fill_of.ensures ∙ c.if-fill_of-ne0.false) c.requires c.in_ok-value.ensures,
+        denial-read c.args.s.now (sym c.fill_of.ensures ∙ c.if-fill_of-ne0.false) c.requires c.in_ok-value.ensures,
         past-supplement (get_or c.args.s.now 0 0 / 16) _ _ e n,
         end-there c.args.s.now _ c.in_ok-read_data.field-0.next b.1,
         c.version_of.ensures,
