@@ -312,7 +312,10 @@ pub fn copy(out: &mut [u8], at: usize, src: &[u8]) -> usize
     if out.len() - at < n {
         return at;
     }
-    out[at..at + n].copy_from_slice(src);
+    // A loop and no copy_from_slice, which is a call of C's memmove: the archive calls no more of its host than memset.
+    for i in 0..n {
+        out[at + i] = src[i];
+    }
     at + n
 }
 
