@@ -1,5 +1,6 @@
 // Lists of tags and of memory data, plain or with passwords: read in place, and written from slices side by side, as the body of a message.
 // Rules: document 01, 'Messages'; what slices describe in specs/Handed. On octets and tags, by their contracts.
+// The writers and what they call are put into their callers by a hint: so a list takes no stack of its own, and what a caller knows of its slices saves tests.
 #![tactic(auto)]
 
 ghost use Rattle.std.specs.Prelude.{◌≡◌, true, ◌+◌, ◌≤◌, length};
@@ -62,6 +63,7 @@ pub fn read_memories(s: &[u8], at: usize, form: Form) -> Reading<Entries>
     octets::read_list(s, at, MemoryEntry { form })
 }
 
+#[inline(always)]
 fn put_keys(out: &mut [u8], at: usize, keys: Keys) -> usize
     requires { at + length (put_all (key keys.form) (keys_in keys)) ≤ length out.old }
     ensures { Wrote out.old at (put_all (key keys.entry.form) (keys_in keys.entry)) out.new result }
@@ -74,6 +76,7 @@ fn put_keys(out: &mut [u8], at: usize, keys: Keys) -> usize
 }
 
 // A message whose body is a list of tags: entry i is tag i, with password i where the form has passwords.
+#[inline(always)]
 pub fn write_keys(
     out: &mut [u8],
     version: u8,
@@ -96,6 +99,7 @@ pub fn write_keys(
 }
 
 // How many octets the entries take; none where a part does not lie within the octets, or where it is more than 2,048.
+#[inline(always)]
 fn sum_memories(memories: Memories) -> Option<usize>
     ensures { MeasuredIn memories.entry result }
 {
@@ -115,6 +119,7 @@ fn sum_memories(memories: Memories) -> Option<usize>
     Some(size)
 }
 
+#[inline(always)]
 fn put_memories(out: &mut [u8], at: usize, memories: Memories) -> usize
     requires { (fit_all (memory memories.keys.form) (memories_in memories) ≡ true)
         × (at + length (put_all (memory memories.keys.form) (memories_in memories)) ≤ length out.old) }
@@ -131,6 +136,7 @@ fn put_memories(out: &mut [u8], at: usize, memories: Memories) -> usize
 
 // A message whose body is a list of memory data: entry i is tag i, with password i where the form has passwords, and the part of `src` that starts at start i
 // and has length i.
+#[inline(always)]
 pub fn write_memories(
     out: &mut [u8],
     version: u8,
