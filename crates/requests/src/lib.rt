@@ -3,9 +3,10 @@
 // resources, by their contracts.
 #![tactic(auto)]
 
-ghost use Rattle.std.specs.Prelude.{[], ◌≡◌, ◌≤◌, drop};
+ghost use Rattle.std.specs.Prelude.{[], ◌≡◌, ◌+◌, ◌<◌, ◌≤◌, drop};
 ghost use Rattle.octets.specs.Reading.{at_end};
 ghost use Rattle.octets.specs.Area.{Does};
+ghost use Rattle.octets.specs.Frame.{sent};
 ghost use Rattle.tags.specs.Entry.{form_of, key};
 ghost use Rattle.tags.specs.View.{keyed};
 ghost use Rattle.lists.specs.Handed.{keys_of};
@@ -151,18 +152,28 @@ fn read_tag(s: &[u8], at: usize, form: Form) -> Result<Key, Fault>
     tags::read_key(s, at, form)?.to_end(s)
 }
 
+// A tag and how the right to it is shown, under a plain operation type or the one with passwords.
+// A call for each form: in it the compiler knows every octet before the tag, and stores them at once.
+fn write_tag(out: &mut [u8], version: u8, plain: u8, access: Access, tag: u64) -> Written
+    requires { plain < 64 }
+    ensures { Does (sent (key (form_of access)) version (plain + form_number (form_of access)) (tag, access) out.old) result out.new }
+{
+    match access {
+        Access::Plain => tags::write_key(out, version, plain, access, tag),
+        Access::Password(_) => tags::write_key(out, version, plain + 64, access, tag),
+    }
+}
+
 pub fn write_free(out: &mut [u8], version: u8, access: Access, tag: u64) -> Written
     ensures { Does (request_sent (request version (form_of access) (b.free (tag, access))) out.old) result out.new }
 {
-    let kind = 2 + form_number(tags::form_of(access));
-    tags::write_key(out, version, kind, access, tag)
+    write_tag(out, version, 2, access, tag)
 }
 
 pub fn write_read(out: &mut [u8], version: u8, access: Access, tag: u64) -> Written
     ensures { Does (request_sent (request version (form_of access) (b.read (tag, access))) out.old) result out.new }
 {
-    let kind = 3 + form_number(tags::form_of(access));
-    tags::write_key(out, version, kind, access, tag)
+    write_tag(out, version, 3, access, tag)
 }
 
 // ---- write
@@ -180,8 +191,10 @@ fn read_write(s: &[u8], at: usize, form: Form) -> Result<Operation, Fault>
 pub fn write_write(out: &mut [u8], version: u8, access: Access, tag: u64, src: &[u8]) -> Written
     ensures { Does (request_sent (request version (form_of access) (b.write ((tag, access), src.now))) out.old) result out.new }
 {
-    let kind = 4 + form_number(tags::form_of(access));
-    tags::write_memory(out, version, kind, access, tag, src)
+    match access {
+        Access::Plain => tags::write_memory(out, version, 4, access, tag, src),
+        Access::Password(_) => tags::write_memory(out, version, 68, access, tag, src),
+    }
 }
 
 // ---- bulk read

@@ -1,6 +1,5 @@
-use mathlib.Core.Path.{◌≡◌, refl, ap, ◌∙◌}
+use mathlib.Core.Path.{refl}
 use Rattle.tags.specs.Entry.{Keyed, form_of, key}
-use Rattle.requests.specs.Command.{form_number}
 use Rattle.requests.specs.Request.{read}
 use Rattle.requests.proofs.Requests.{sent-is}
 use Rattle.requests.proofs.write_read.Goals as goal
@@ -9,5 +8,4 @@ pub returns : goal.returns
 returns c =
     let w = form_of c.args.access in
     let v : Keyed = (c.args.tag, c.args.access) in
-    let n : c.form_number-kind.result ≡ form_number w = c.form_number-kind.ensures.0 ∙ ap form_number c.form_of.ensures.0 in
-    rw (← sent-is (read v) w tt (key w) v refl refl c.args.version c.args.out.now, ← n) c.write_key.ensures
+    rw (← sent-is (read v) w tt (key w) v refl refl c.args.version c.args.out.now) c.write_tag.ensures
