@@ -1,6 +1,6 @@
 // Lists of tags and of memory data, plain or with passwords: read in place, and written from slices side by side, as the body of a message.
 // Rules: document 01, 'Messages'; what slices describe in specs/Handed. On octets and tags, by their contracts.
-// The writers and what they call are put into their callers by a hint: so a list takes no stack of its own, and what a caller knows of its slices saves tests.
+// The writers and what they call stand in their callers by a hint: calls within calls took more stack, and what a caller knows of its slices saves tests.
 #![tactic(auto)]
 
 ghost use Rattle.std.specs.Prelude.{◌≡◌, true, ◌+◌, ◌≤◌, length};

@@ -152,8 +152,8 @@ fn read_tag(s: &[u8], at: usize, form: Form) -> Result<Key, Fault>
     tags::read_key(s, at, form)?.to_end(s)
 }
 
-// A tag and how the right to it is shown, under a plain operation type or the one with passwords.
-// A call for each form: in it the compiler knows every octet before the tag, and stores them at once.
+// A tag and how the right to it is shown, under a plain operation type or the one with passwords, which is 64 more.
+// A call for each form, as in write_write: in it the compiler knows every octet before the tag, and stores them at once.
 fn write_tag(out: &mut [u8], version: u8, plain: u8, access: Access, tag: u64) -> Written
     requires { plain < 64 }
     ensures { Does (sent (key (form_of access)) version (plain + form_number (form_of access)) (tag, access) out.old) result out.new }

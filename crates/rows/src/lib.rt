@@ -154,7 +154,7 @@ pub fn find_row(table: &[u64], count: usize, tag: u64) -> Option<usize>
 {
     let id = octets::bare_tag(tag);
     let n = count.min(table.len() / Slot::WORDS);
-    // The odd row, then two rows a turn: so a row takes half the steps, wherever the compiler puts the loop.
+    // The odd row, then two rows a turn: so the loop's own steps are halved, which counts among many tags.
     let odd = n % 2;
     if odd == 1 && table[0] == id {
         return Some(0);
